@@ -1,0 +1,25 @@
+-- The answers, and the numbers that come back.
+use Prim.Native.Nat.{ℕ}
+use mathlib.Core.Bool.{Bool, true, false}
+use lib.Dec.{eqb}
+use Rattle.rules.specs.declared.Answer.{Answer}
+use Rattle.rules.specs.declared.Answer.the-variants.{Done, NoSuchLinks, ArrayShort, WorkShort, BookBroken, Full, NoneHeld, DoorAbove, NoPlace, OrderBroken, NotAFrame}
+
+-- "Every call answers with a number"
+unfoldable pub numberOf : Answer → ℕ
+numberOf Done = 0
+numberOf NoSuchLinks = 1
+numberOf ArrayShort = 2
+numberOf WorkShort = 3
+numberOf BookBroken = 4
+numberOf Full = 5
+numberOf NoneHeld = 6
+numberOf DoorAbove = 7
+numberOf NoPlace = 8
+numberOf OrderBroken = 9
+numberOf NotAFrame = 10
+
+-- "0 | done"
+unfoldable pub isDone : Answer → Bool
+unfolding numberOf
+isDone answer = eqb (numberOf answer) 0

@@ -1,0 +1,15 @@
+pub mod Answers
+pub mod Entries
+pub mod Tests
+pub mod Links
+pub mod Tree
+pub mod Merge
+pub mod Fill
+pub mod Take
+pub mod Queue
+pub mod Sweep
+pub mod Insert
+pub mod Order
+pub mod Book
+pub mod Calls
+pub mod Examples
