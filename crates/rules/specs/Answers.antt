@@ -6,7 +6,7 @@ use Rattle.rules.specs.declared.Answer.{Answer}
 use Rattle.rules.specs.declared.Answer.the-variants.{Done, NoSuchLinks, ArrayShort, WorkShort, BookBroken, Full, NoneHeld, DoorAbove, NoPlace, OrderBroken, NotAFrame}
 
 -- "Every call answers with a number"
-unfoldable pub numberOf : Answer → ℕ
+abbrev pub numberOf : Answer → ℕ
 numberOf Done = 0
 numberOf NoSuchLinks = 1
 numberOf ArrayShort = 2
@@ -21,5 +21,4 @@ numberOf NotAFrame = 10
 
 -- "0 | done"
 unfoldable pub isDone : Answer → Bool
-unfolding numberOf
 isDone answer = eqb (numberOf answer) 0

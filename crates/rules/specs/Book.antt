@@ -101,5 +101,5 @@ plainBook q =
       counters = q .counters;
       counts = map length (q .buffers);
       starts = replicate (length (q .buffers)) 0;
-      marks = replicate (length (q .buffers)) false
+      marks = replicate (length (q .buffers)) false;
     }

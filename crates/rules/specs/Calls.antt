@@ -37,7 +37,6 @@ pub record Outcome : Type 0 where
 -- ---- checks
 
 infix 15 _else_
-
 pub data Check : Type 0 where
   _else_ : Bool → Answer → Check
 
@@ -81,12 +80,12 @@ insert work entry a =
     let z = inserted entry q in
     let accepted : Outcome = record { answer = Done; word = 0; steps = z .steps; packed = z .packed; queue = z .queue } in
     let checks = arrayChecks a (
-      (leb (most (q .links)) work else WorkShort)
-      ∷ (sound (a .book) else BookBroken)
-      ∷ (leb (door entry) 2 else DoorAbove)
-      ∷ (ltb (held q) (most (q .links)) else Full)
-      ∷ (z .fits else NoPlace)
-      ∷ []) in
+    (leb (most (q .links)) work else WorkShort)
+    ∷ (sound (a .book) else BookBroken)
+    ∷ (leb (door entry) 2 else DoorAbove)
+    ∷ (ltb (held q) (most (q .links)) else Full)
+    ∷ (z .fits else NoPlace)
+    ∷ []) in
     unless (firstFailing checks) q accepted
 
 -- "take and look 4, 6"

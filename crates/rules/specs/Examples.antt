@@ -37,7 +37,6 @@ pub record Shown : Type 0 where
   pub counts : List ℕ
 
 unfoldable pub shown : Outcome → Shown
-unfolding numberOf
 shown o = record { number = numberOf (o .answer); word = o .word; steps = o .steps; packed = o .packed; counters = o .queue .counters; counts = map length (o .queue .buffers) }
 
 -- what each of these orders shows, one after the other

@@ -1,7 +1,7 @@
 -- The links: k, s, and the capacity and the slots of each buffer, by the rule, for every link number from 1 on.
 -- In a link the buffers have numbers: 0 is A, 1 is B, and the merger with output j has the inputs 2j and 2j + 1, so that k, .., 2k - 1 are S(i,1), .., S(i,k).
 use mathlib.Core.Path.{_≡_, refl}
-use Prim.Native.Nat.{ℕ, zero, suc, _+_, _-_, _*_, _^_, _/_}
+use Prim.Native.Nat.{ℕ, zero, suc, _+_, _-_, _*_, _^_, _/_, _≤_, _<_}
 use mathlib.Core.Bool.{Bool, true, false}
 use mathlib.Core.List.{List, [], _∷_, _++_, map}
 use lib.ListN.{length, getD}
@@ -174,6 +174,17 @@ bookWords = 256
 unfoldable pub words : ℕ → ℕ
 unfolding bookWords start
 words links = bookWords + start (suc links)
+
+-- a link that there is; a buffer of it
+pub record LinkNumber (i : ℕ) : Type 0 where
+  pub low : 1 ≤ i
+  pub high : i ≤ 4
+
+-- `few` follows from the others, by `in-link`, and stands here for the code's sums
+pub record InLink (i j : ℕ) : Type 0 where
+  pub link : LinkNumber i
+  pub below : j < 2 * k i
+  pub few : j < 32
 
 -- ---- the tables of document 01, computed
 

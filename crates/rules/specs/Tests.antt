@@ -3,7 +3,6 @@ use Prim.Native.Nat.{ℕ, zero, suc, _+_}
 use mathlib.Core.Bool.{Bool, true, false}
 
 infixr 30 _and_
-
 -- the second is tried only where the first holds
 abbrev pub _and_ : Bool → Bool → Bool
 true and b = b
@@ -11,7 +10,6 @@ false and b = false
 
 infixr 25 _or_
 infixr 20 _implies_
-
 abbrev pub _or_ : Bool → Bool → Bool
 true or b = true
 false or b = b
