@@ -48,6 +48,10 @@ session work (order ∷ orders) a =
     let now = shown o in
     now ∷ session work orders (afterwards a o)
 
+-- the same as numbers, one after the other
+unfoldable pub everythingShown : Shown → List ℕ
+everythingShown now = now .number ∷ now .word ∷ now .steps ∷ now .counters ++ now .counts
+
 -- ---- the examples
 
 -- what an example tells of its calls: the numbers other than 0, in order; the steps in all; and what the last call shows, its word as a tick

@@ -13,3 +13,4 @@ pub mod Order
 pub mod Book
 pub mod Calls
 pub mod Examples
+pub mod Sessions
