@@ -1,0 +1,3 @@
+pub mod SlotLaws
+pub mod ArrayLaws
+pub mod WordLaws

@@ -1,0 +1,3 @@
+pub mod Slots
+pub mod Format
+pub mod Post

@@ -1,0 +1,59 @@
+-- What the accessors and writers ask and ensure, with a name for each part.
+use mathlib.Core.Path.{_≡_}
+use mathlib.Core.Logic.{_≢_}
+use Prim.Native.Nat.{ℕ, _+_, _*_, _≤_, _<_}
+use mathlib.Core.List.{List, [], _∷_, _++_}
+use lib.ListN.{length, getD, set}
+use Rattle.rules.specs.Links.{LinkNumber, words}
+use Rattle.rules.specs.Tree.{Buffers}
+use Rattle.buffers.specs.Slots.{base, capacityOf}
+use Rattle.buffers.specs.Format.{linksIn, wordOf, countOf, startOf, markOf, many, bufferOf, buffersOf}
+
+-- the array is long enough for its links, and every count and start place is inside its buffer
+pub record Inside (ws : List ℕ) : Type 0 where
+  pub link : LinkNumber (linksIn ws)
+  pub long : words (linksIn ws) ≤ length ws
+  pub fits : (n : ℕ) → n < many ws → startOf ws n + countOf ws n ≤ capacityOf n
+
+-- such an array and a buffer of it; what follows the first two is what they give, by `has`, for the code's sums and places
+pub record Has (ws : List ℕ) (n : ℕ) : Type 0 where
+  pub array : Inside ws
+  pub below : n < many ws
+  pub small : n < 61
+  pub behind : 256 ≤ base n
+  pub room : capacityOf n ≤ 4096
+  pub slots : base n + capacityOf n ≤ length ws
+  pub fits : startOf ws n + countOf ws n ≤ capacityOf n
+
+-- a change that concerns buffer n alone: its word and its slots
+pub record Only (ws ws′ : List ℕ) (n : ℕ) : Type 0 where
+  pub long : length ws′ ≡ length ws
+  pub outside : (p : ℕ) → p ≢ 8 + n → (base n ≤ p → p < base n + capacityOf n → ⊥) → getD ws′ p 0 ≡ getD ws p 0
+
+-- buffer n now has the entries es, and nothing else has changed
+pub record Now (ws ws′ : List ℕ) (n : ℕ) (es : List ℕ) : Type 0 where
+  pub array : Inside ws′
+  pub only : Only ws ws′ n
+  pub state : buffersOf ws′ ≡ set (buffersOf ws) n es
+
+-- what the writers ask beside a buffer: entries to drop, room to grow, room from the first slot on, nothing in it
+pub record Dropping (ws : List ℕ) (n m : ℕ) : Type 0 where
+  pub of : Has ws n
+  pub enough : m ≤ countOf ws n
+
+pub record Growing (ws : List ℕ) (n m : ℕ) : Type 0 where
+  pub of : Has ws n
+  pub room : startOf ws n + countOf ws n + m ≤ capacityOf n
+
+pub record Laying (ws : List ℕ) (n m : ℕ) : Type 0 where
+  pub of : Has ws n
+  pub room : m ≤ capacityOf n
+
+pub record Emptied (ws : List ℕ) (n : ℕ) : Type 0 where
+  pub of : Has ws n
+  pub none : countOf ws n ≡ 0
+
+-- what becomes of buffer n's mark and start place
+pub record Word (ws : List ℕ) (n m s : ℕ) : Type 0 where
+  pub mark : markOf ws n ≡ m
+  pub start : startOf ws n ≡ s
