@@ -1,0 +1,97 @@
+-- What feeds link i's buffer j, and what stands at the top of the tree below it.
+use Prim.Native.Nat.{ℕ, zero, suc, _+_, _-_, _*_, _≤_, _<_}
+use mathlib.Core.Path.{_≡_, refl, sym, ap, _∙_}
+use mathlib.Core.Logic.{_⊎_, inl, inr}
+use mathlib.Core.Bool.{Bool, true, false}
+use mathlib.Core.List.{List, [], _∷_, _++_}
+use native.Mathlib.Omega.{arith}
+use native.Mathlib.Nat.{add-zero}
+use native.Mathlib.Decide.{decLt}
+use lib.Dec.{T, leb, eqb, leb→le, eqb→eq}
+use lib.ListN.{length, getD, set, drop, drop-of-length-le, List·getD-append}
+use lib.Seq.{drop-cons}
+use Rattle.rules.specs.Tests.{_and_, every}
+use Rattle.rules.specs.Links.{s, k, levels, first, depthOf, capacity, LinkNumber, InLink}
+use Rattle.rules.specs.Tree.{Buffers, Tree, exhausted, buffer, merger, entries, put, perfect, kMerger, linksFrom}
+use Rattle.rules.proofs.Table.{and-one, and-two, every-at, each-link, k-least}
+use Rattle.mergers.specs.Subtree.{subtree, firstInput, secondInput, secondLink}
+
+-- ---- depths, by one computed test over all links
+
+unfoldable innerDepths : ℕ → ℕ → Bool
+innerDepths i j = leb (suc (depthOf j)) (length (levels i)) and eqb (depthOf (2 * j)) (suc (depthOf j)) and eqb (depthOf (2 * j + 1)) (suc (depthOf j))
+
+inner-depths : {i : ℕ} → LinkNumber i → (j : ℕ) → 1 ≤ j → j < k i → T (innerDepths i j)
+unfolding every innerDepths depthOf levels k
+inner-depths {i} h j low high = every-at (innerDepths i) 1 (k i - 1) (each-link (λ i. every (innerDepths i) 1 (k i - 1)) tt h) j low (omega arith)
+
+record Deeper (i j : ℕ) : Type 0 where
+  inside : depthOf j < length (levels i)
+  one : depthOf (2 * j) ≡ suc (depthOf j)
+  two : depthOf (2 * j + 1) ≡ suc (depthOf j)
+
+deeper : {i : ℕ} → LinkNumber i → (j : ℕ) → 1 ≤ j → j < k i → Deeper i j
+unfolding innerDepths
+deeper {i} h j low high =
+    let a = leb (suc (depthOf j)) (length (levels i)) in
+    let b = eqb (depthOf (2 * j)) (suc (depthOf j)) in
+    let c = eqb (depthOf (2 * j + 1)) (suc (depthOf j)) in
+    let t = inner-depths h j low high in
+    record {
+      inside = leb→le (suc (depthOf j)) (length (levels i)) (and-one a (b and c) t);
+      one = eqb→eq (depthOf (2 * j)) (suc (depthOf j)) (and-one b c (and-two a (b and c) t));
+      two = eqb→eq (depthOf (2 * j + 1)) (suc (depthOf j)) (and-two b c (and-two a (b and c) t));
+    }
+
+deepest : {i : ℕ} → LinkNumber i → (j : ℕ) → k i ≤ j → j < 2 * k i → depthOf j ≡ length (levels i)
+unfolding every depthOf levels k
+deepest {i} h j low high =
+    eqb→eq (depthOf j) (length (levels i)) (every-at (λ j. eqb (depthOf j) (length (levels i))) (k i) (k i) (each-link (λ i. every (λ j. eqb (depthOf j) (length (levels i))) (k i) (k i)) tt h) j low (omega arith))
+
+-- ---- the tree below a buffer
+
+below-is : (last i j : ℕ) → 1 ≤ j → subtree last i j ≡ perfect (first i) (s i) (drop (depthOf j) (levels i)) j
+unfolding subtree
+below-is last i zero h = absurd (omega arith)
+below-is last i (suc j) h = refl
+
+pub past-last : (last i : ℕ) → last < i → subtree last i 0 ≡ exhausted
+unfolding subtree linksFrom
+past-last last i h = let e : suc last - i ≡ 0 = omega arith in rw e
+
+-- S(i,j): no merger feeds it
+pub fed-by-none : (last : ℕ) {i j : ℕ} → InLink i j → k i ≤ j → subtree last i j ≡ buffer (first i + j) (s i)
+unfolding perfect
+fed-by-none last {i} {j} h low =
+    let some : 1 ≤ j = omega (arith, low, k-least (h .link)) in
+    let far : length (levels i) ≤ depthOf j = omega (arith, deepest (h .link) j low (h .below)) in
+    let none : drop (depthOf j) (levels i) ≡ [] = drop-of-length-le (levels i) far in
+    below-is last i j some ∙ rw none
+
+capacity-at : (i j : ℕ) → 1 ≤ j → depthOf j < length (levels i) → capacity i j ≡ getD (levels i) (depthOf j) 0
+unfolding capacity
+capacity-at i zero low inside = absurd (omega arith)
+capacity-at i (suc j) low inside = List·getD-append (levels i) (s i ∷ []) 0 (depthOf (suc j)) inside
+
+-- every other buffer has a merger with two inputs
+module _ (last : ℕ) {i : ℕ} (h : LinkNumber i) where
+  fed-a : i ≤ last → subtree last i 0 ≡ merger (first i) (capacity i 0) (subtree last i 1) (subtree last (suc i) 0)
+  unfolding subtree linksFrom kMerger depthOf
+  fed-a low =
+      let e : suc last - i ≡ suc (last - i) = omega arith in
+      let f : suc last - suc i ≡ last - i = omega arith in
+      rw (e, f)
+
+  fed-inner : (j : ℕ) → 1 ≤ j → j < k i → subtree last i j ≡ merger (first i + j) (capacity i j) (subtree last i (2 * j)) (subtree last i (2 * j + 1))
+  unfolding perfect
+  fed-inner j low high =
+      let d = deeper h j low high in
+      let e : 2 * j + 1 ≡ suc (2 * j) = omega arith in
+      below-is last i j low
+      ∙ rw (drop-cons (levels i) (depthOf j) 0 (d .inside), capacity-at i j low (d .inside), e, below-is last i (2 * j) (omega arith), below-is last i (suc (2 * j)) (omega arith), d .one, rw e at (d .two))
+
+  -- "Merger v(i) has first input B(i), second input A(i+1), output A(i)."; the others have the inputs 2j and 2j + 1
+  pub fed-by-two : i ≤ last → (j : ℕ) → j < k i
+      → subtree last i j ≡ merger (first i + j) (capacity i j) (subtree last i (firstInput j)) (subtree last (secondLink i j) (secondInput j))
+  fed-by-two low zero high = fed-a low ∙ rw (add-zero (first i))
+  fed-by-two low (suc j) high = fed-inner (suc j) (omega arith) high

@@ -1,0 +1,11 @@
+use mathlib.Core.Path.{refl}
+use Rattle.rules.specs.Entries.{wholeWord}
+use Rattle.runs.proofs.goes_first.Statement.{statement}
+use Rattle.runs.proofs.goes_first.Tie as tie
+
+returns : tie.Need-returns
+unfolding wholeWord
+returns c = refl
+
+pub goes-first-spec : {M : Type 1} → statement M
+goes-first-spec = tie.close (tie.spec returns)
