@@ -11,7 +11,7 @@ use lib.Seq.{getD-take, getD-drop, ext-getD, getD-set-same, getD-set-other, drop
 use Rattle.rules.specs.Links.{from, bufferCount, words, LinkNumber}
 use Rattle.buffers.specs.Slots.{capacityOf, base}
 use Rattle.buffers.specs.Format.{countIn, startIn, markIn, linksIn, counterIn, wordOf, countOf, startOf, markOf, many, headOf, bufferOf, buffersOf}
-use Rattle.buffers.specs.Post.{Inside, Has, Only, Now}
+use Rattle.buffers.specs.Post.{Inside, Has, Only, Now, Kept}
 use Rattle.buffers.proofs.SlotLaws.{apart, behind-book, not-both, in-words, few, small-capacity}
 
 -- ---- one value for each number
@@ -118,6 +118,28 @@ module _ (ws ws′ : List ℕ) (n : ℕ) (h : Has ws n) (only : Only ws ws′ n)
             ∙ sym (getD-set-same (buffersOf ws) n es [] (rw (buffers-length ws) (h .below))) ∙ ap (λ j. getD (set (buffersOf ws) n es) j []) (sym e)
         go m lt (no differ) =
             buffers-at ws′ m (rw only-links lt) ∙ only-buffer m lt differ ∙ sym (buffers-at ws m lt) ∙ sym (getD-set-other (buffersOf ws) n m es [] differ)
+
+-- ---- what is left alone
+
+pub kept-none : (ws : List ℕ) → Kept ws ws
+kept-none ws = record { long = refl; front = λ p h. refl; past = λ p h. refl }
+
+pub kept-links : {ws ws′ : List ℕ} → Kept ws ws′ → linksIn ws′ ≡ linksIn ws
+kept-links k = k .front 0 (omega arith)
+
+pub kept-then : {ws ws′ ws″ : List ℕ} → Kept ws ws′ → Kept ws′ ws″ → Kept ws ws″
+kept-then {ws} {ws′} {ws″} k l = record {
+  long = l .long ∙ k .long;
+  front = λ p h. l .front p h ∙ k .front p h;
+  past = λ p h. l .past p (rw (kept-links k) h) ∙ k .past p h;
+}
+
+pub only-kept : (ws ws′ : List ℕ) (n : ℕ) → Has ws n → Only ws ws′ n → Kept ws ws′
+only-kept ws ws′ n h only = record {
+  long = only .long;
+  front = λ p lt. only .outside p (omega arith) (omega (arith, h .behind));
+  past = λ p lt. only .outside p (omega (arith, in-words (h .array .link) n (h .below), h .behind, h .small)) (omega (arith, in-words (h .array .link) n (h .below)));
+}
 
 -- ---- buffer n's word anew: it then has what stands where the word says
 

@@ -36,6 +36,12 @@ pub record Now (ws ws′ : List ℕ) (n : ℕ) (es : List ℕ) : Type 0 where
   pub only : Only ws ws′ n
   pub state : buffersOf ws′ ≡ set (buffersOf ws) n es
 
+-- what a change of buffers leaves alone: the length, the link number and the counters, and all words past the stated length
+pub record Kept (ws ws′ : List ℕ) : Type 0 where
+  pub long : length ws′ ≡ length ws
+  pub front : (p : ℕ) → p < 8 → getD ws′ p 0 ≡ getD ws p 0
+  pub past : (p : ℕ) → words (linksIn ws) ≤ p → getD ws′ p 0 ≡ getD ws p 0
+
 -- what the writers ask beside a buffer: entries to drop, room to grow, room from the first slot on, nothing in it
 pub record Dropping (ws : List ℕ) (n m : ℕ) : Type 0 where
   pub of : Has ws n

@@ -1,3 +1,5 @@
 pub mod RunLaws
 pub mod TurnLaws
 pub mod SubtreeLaws
+pub mod AppendLaws
+pub mod MoveLaws

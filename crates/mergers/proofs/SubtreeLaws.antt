@@ -11,9 +11,11 @@ use lib.Dec.{T, leb, eqb, leb→le, eqb→eq}
 use lib.ListN.{length, getD, set, drop, drop-of-length-le, List·getD-append}
 use lib.Seq.{drop-cons}
 use Rattle.rules.specs.Tests.{_and_, every}
-use Rattle.rules.specs.Links.{s, k, levels, first, depthOf, capacity, LinkNumber, InLink}
+use Rattle.rules.specs.Links.{s, k, levels, first, depthOf, capacity, start, offset, bufferCount, words, LinkNumber, InLink}
 use Rattle.rules.specs.Tree.{Buffers, Tree, exhausted, buffer, merger, entries, put, perfect, kMerger, linksFrom}
-use Rattle.rules.proofs.Table.{and-one, and-two, every-at, each-link, k-least}
+use Rattle.rules.proofs.Table.{and-one, and-two, every-at, each-link, k-least, first-most, first-at, words-at}
+use Rattle.buffers.specs.Slots.{base}
+use Rattle.buffers.proofs.SlotLaws.{base-is, in-words}
 use Rattle.mergers.specs.Subtree.{subtree, firstInput, secondInput, secondLink}
 
 -- ---- depths, by one computed test over all links
@@ -95,3 +97,40 @@ module _ (last : ℕ) {i : ℕ} (h : LinkNumber i) where
       → subtree last i j ≡ merger (first i + j) (capacity i j) (subtree last i (firstInput j)) (subtree last (secondLink i j) (secondInput j))
   fed-by-two low zero high = fed-a low ∙ rw (add-zero (first i))
   fed-by-two low (suc j) high = fed-inner (suc j) (omega arith) high
+
+pub first-input-is : (j : ℕ) → 0 < j → 2 * j ≡ firstInput j
+first-input-is zero h = absurd (omega arith)
+first-input-is (suc j) h = refl
+
+pub second-input-is : (j : ℕ) → 0 < j → 2 * j + 1 ≡ secondInput j
+second-input-is zero h = absurd (omega arith)
+second-input-is (suc j) h = refl
+
+pub second-link-is : (i j : ℕ) → 0 < j → i ≡ secondLink i j
+second-link-is i zero h = absurd (omega arith)
+second-link-is i (suc j) h = refl
+
+pub second-link-next : (i j : ℕ) → j ≡ 0 → i + 1 ≡ secondLink i j
+second-link-next i j e = rw e (omega arith)
+
+-- ---- where a buffer is
+
+pub first-below : (i : ℕ) → 1 ≤ i → i ≤ 5 → first i ≤ 61
+unfolding every first
+first-below i low high = leb→le (first i) 61 (every-at (λ i. leb (first i) 61) 1 5 tt i low (omega arith))
+
+pub base-here : {i j : ℕ} → InLink i j → {i′ r : ℕ} → i′ ≡ i → r ≡ start i′ + offset i′ j → 256 + r ≡ base (first i + j)
+base-here {i} {j} h {i′} {r} e f = let g : r ≡ start i + offset i j = rw e at f in rw g (sym (base-is h))
+
+pub base-below : {i j : ℕ} → InLink i j → base (first i + j) ≤ 28436
+unfolding bufferCount
+base-below {i} {j} h = omega (arith, in-words four (first i + j) (omega (arith, h .below, first-most (h .link), sixty-one)), four-words)
+  where
+    four : LinkNumber 4
+    four = record { low = omega arith; high = omega arith }
+
+    sixty-one : bufferCount 4 ≡ 61
+    sixty-one = sym (first-at 5 tt refl tt)
+
+    four-words : words 4 ≡ 28436
+    four-words = sym (words-at 4 tt refl tt)

@@ -1,0 +1,75 @@
+-- What the mergers' functions ask and ensure, with a name for each part.
+use mathlib.Core.Path.{_≡_}
+use mathlib.Core.Logic.{_≢_, _⊎_}
+use mathlib.Core.Bool.{Bool, true, false, not}
+use Prim.Native.Nat.{ℕ, _+_, _-_, _≤_, _<_, min}
+use mathlib.Core.List.{List, [], _∷_, _++_}
+use lib.Dec.{eqb}
+use lib.ListN.{length, getD, set, take, drop}
+use Rattle.rules.specs.Entries.{wholeWord}
+use Rattle.rules.specs.Links.{first, InLink}
+use Rattle.rules.specs.Merge.{merged}
+use Rattle.rules.specs.Tree.{Buffers}
+use Rattle.rules.specs.Tests.{_and_}
+use Rattle.buffers.specs.Slots.{base, capacityOf}
+use Rattle.buffers.specs.Format.{wordOf, countOf, startOf, markOf, many, bufferOf, buffersOf}
+use Rattle.buffers.specs.Post.{Inside, Has, Kept}
+use Rattle.runs.specs.Promises.{Apart}
+use Rattle.mergers.specs.Moves.{runLength}
+
+-- an input is to be filled: it is empty and has no mark
+abbrev pub wanted : List ℕ → ℕ → Bool
+wanted ws n = eqb (countOf ws n) 0 and not (eqb (markOf ws n) 1)
+
+-- link i's buffer j, or A of the link behind the last that there is, which has no slots
+pub record Spot (i j : ℕ) : Type 0 where
+  pub low : 1 ≤ i
+  pub high : i ≤ 5
+  pub few : j < 32
+  pub inside : i ≤ 4 → InLink i j
+
+pub record Placed (i j n p : ℕ) : Type 0 where
+  pub number : n ≡ first i + j
+  pub at : i ≤ 4 → p ≡ base (first i + j)
+
+-- two stretches of so many words that do not meet
+pub record Shifting (ws : List ℕ) (to from m : ℕ) : Type 0 where
+  pub target : to + m ≤ length ws
+  pub source : from + m ≤ length ws
+  pub apart : Apart from (from + m) to (to + m)
+
+-- a buffer and the word at which its slots begin
+pub record At (ws : List ℕ) (n p : ℕ) : Type 0 where
+  pub of : Has ws n
+  pub begins : p ≡ base n
+
+-- an output with room for so many more, and one input, or two
+pub record Moving (ws : List ℕ) (out to room one from : ℕ) : Type 0 where
+  pub output : At ws out to
+  pub input : At ws one from
+  pub differ : out ≢ one
+  pub free : startOf ws out + countOf ws out + room ≤ capacityOf out
+
+pub record Merging (ws : List ℕ) (out to room one from two other : ℕ) : Type 0 where
+  pub first : Moving ws out to room one from
+  pub second : Moving ws out to room two other
+  pub differ : one ≢ two
+
+-- what merge steps leave: the buffers are these, and marks, start place of the output and words of other buffers are as before
+pub record Ran (ws ws′ : List ℕ) (out one two : ℕ) (bs : Buffers) : Type 0 where
+  pub array : Inside ws′
+  pub state : buffersOf ws′ ≡ bs
+  pub kept : Kept ws ws′
+  pub marks : (n : ℕ) → n < many ws → markOf ws′ n ≡ markOf ws n
+  pub start : startOf ws′ out ≡ startOf ws out
+  pub words : (n : ℕ) → n < many ws → n ≢ out → n ≢ one → n ≢ two → wordOf ws′ n ≡ wordOf ws n
+
+-- m entries of an input have moved to the end of the output
+abbrev pub movedBy : ℕ → List ℕ → ℕ → ℕ → Buffers
+movedBy m ws out one = set (set (buffersOf ws) out (bufferOf ws out ++ take m (bufferOf ws one))) one (drop m (bufferOf ws one))
+
+-- m merge steps from two inputs
+abbrev pub mergedBy : ℕ → List ℕ → ℕ → ℕ → ℕ → Buffers
+mergedBy m ws out one two =
+    let z = merged wholeWord m (bufferOf ws one) (bufferOf ws two) in
+    set (set (set (buffersOf ws) out (bufferOf ws out ++ z .out)) one (z .one)) two (z .two)
