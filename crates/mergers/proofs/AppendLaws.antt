@@ -14,8 +14,7 @@ use Rattle.buffers.specs.Format.{linksIn, wordOf, countOf, startOf, markOf, man
 use Rattle.buffers.specs.Post.{Inside, Has, Only, Now, Kept, Growing}
 use Rattle.buffers.proofs.ArrayLaws.{has, buffer-length, entry-at, buffer-is, buffers-at, only-links, only-word, only-inside, only-now, only-kept}
 use Rattle.runs.specs.Promises.{laidAt}
-use Rattle.runs.proofs.LayingLaws.{length-laid, laid-outside, laid-none, laid-more}
-use Rattle.mergers.specs.Post.{Shifting}
+use Rattle.runs.proofs.LayingLaws.{length-laid, laid-outside}
 
 -- ---- a run laid in an array
 
@@ -23,29 +22,6 @@ use Rattle.mergers.specs.Post.{Shifting}
 pub laid-here : (a : List ℕ) (at : ℕ) (run : List ℕ) → at ≤ length a → take (length run) (drop at (laidAt a at run)) ≡ run
 laid-here a at run inside =
     rw (drop-at (take at a) (run ++ drop (at + length run) a) at (length-take-le at a inside)) (take-append-seam run (drop (at + length run) a))
-
--- ---- a stretch copied to another that it does not meet
-
-pub record Shifted (a₀ a : List ℕ) (to from i : ℕ) : Type 0 where
-  pub sized : length a ≡ length a₀
-  pub laid : a ≡ laidAt a₀ to (take i (drop from a₀))
-
-pub shift-start : (a : List ℕ) (to from : ℕ) → Shifted a a to from 0
-shift-start a to from = record { sized = refl; laid = laid-none a to }
-
-pub shift-more : (a₀ a : List ℕ) (to from m i : ℕ) → Shifting a₀ to from m → i < m → Shifted a₀ a to from i
-    → Shifted a₀ (set a (to + i) (getD a (from + i) 0)) to from (i + 1)
-shift-more a₀ a to from m i h lt z =
-    let long : length (take i (drop from a₀)) ≡ i = length-take-le i (drop from a₀) (simp length-drop (omega (arith, h .source))) in
-    let away : (from + i < to) ⊎ (to + length (take i (drop from a₀)) ≤ from + i) = ⊎-elim (λ before. inl (omega arith)) (λ behind. inr (omega (arith, long))) (h .apart) in
-    let read : getD a (from + i) 0 ≡ getD a₀ (from + i) 0 =
-    ap (λ l. getD l (from + i) 0) (z .laid) ∙ laid-outside a₀ to (take i (drop from a₀)) (from + i) (omega (arith, long, h .target)) away in
-    let in-part : i < length (drop from a₀) = simp length-drop (omega (arith, h .source)) in
-    let next : take (i + 1) (drop from a₀) ≡ take i (drop from a₀) ++ getD a₀ (from + i) 0 ∷ [] = rw (add-one, take-suc (drop from a₀) i 0, getD-drop) in
-    record {
-      sized = length-set a (to + i) (getD a (from + i) 0) ∙ z .sized;
-      laid = rw (read, z .laid) (laid-more a₀ to (take i (drop from a₀)) (to + i) (getD a₀ (from + i) 0) (omega (arith, long)) (omega (arith, h .target)) ∙ ap (laidAt a₀ to) (sym next));
-    }
 
 module _ (ws : List ℕ) (n : ℕ) (es : List ℕ) (h : Has ws n) (room : startOf ws n + countOf ws n + length es ≤ capacityOf n) where
   abbrev pub end : ℕ

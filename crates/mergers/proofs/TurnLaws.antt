@@ -139,3 +139,19 @@ module _ (key : ℕ → ℕ) where
   run-none room [] ys e = (refl, no-entries ys (omega arith))
   run-none room (x ∷ xs) [] e = absurd (omega arith)
   run-none room (x ∷ xs) (y ∷ ys) e = absurd (omega (arith, until-some room x xs y ys))
+
+  -- the length of a run, by which inputs have entries
+  pub run-second : (room : ℕ) (xs ys : List ℕ) → xs ≡ [] → runLength key room xs ys ≡ min room (length ys)
+  unfolding runLength
+  run-second room xs ys e = rw e
+
+  pub run-first : (room : ℕ) (xs ys : List ℕ) → 0 < length xs → ys ≡ [] → runLength key room xs ys ≡ min room (length xs)
+  unfolding runLength
+  run-first room [] ys some e = absurd (omega arith)
+  run-first room (x ∷ xs) ys some e = rw (e, runLength)
+
+  pub run-both : (room : ℕ) (xs ys : List ℕ) → 0 < length xs → 0 < length ys → runLength key room xs ys ≡ untilEmpty key room xs ys
+  unfolding runLength
+  run-both room [] ys some others = absurd (omega arith)
+  run-both room (x ∷ xs) [] some others = absurd (omega arith)
+  run-both room (x ∷ xs) (y ∷ ys) some others = refl

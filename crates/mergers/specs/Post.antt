@@ -14,7 +14,6 @@ use Rattle.rules.specs.Tests.{_and_}
 use Rattle.buffers.specs.Slots.{base, capacityOf}
 use Rattle.buffers.specs.Format.{wordOf, countOf, startOf, markOf, many, bufferOf, buffersOf}
 use Rattle.buffers.specs.Post.{Inside, Has, Kept}
-use Rattle.runs.specs.Promises.{Apart}
 use Rattle.mergers.specs.Moves.{runLength}
 
 -- an input is to be filled: it is empty and has no mark
@@ -31,12 +30,6 @@ pub record Spot (i j : ℕ) : Type 0 where
 pub record Placed (i j n p : ℕ) : Type 0 where
   pub number : n ≡ first i + j
   pub at : i ≤ 4 → p ≡ base (first i + j)
-
--- two stretches of so many words that do not meet
-pub record Shifting (ws : List ℕ) (to from m : ℕ) : Type 0 where
-  pub target : to + m ≤ length ws
-  pub source : from + m ≤ length ws
-  pub apart : Apart from (from + m) to (to + m)
 
 -- a buffer and the word at which its slots begin
 pub record At (ws : List ℕ) (n p : ℕ) : Type 0 where

@@ -1,14 +1,14 @@
 // Mergers: filling a buffer from its inputs, down the tree.
 ghost use mathlib.Core.Path.{_≡_};
 ghost use Prim.Native.Nat.{ℕ, suc, _+_, _*_, _≤_, _<_, min};
-ghost use lib.ListN.{length, take, drop};
+ghost use lib.ListN.{length};
 ghost use Rattle.rules.specs.Entries.{wholeWord};
 ghost use Rattle.buffers.specs.Format.{bufferOf, buffersOf};
 ghost use Rattle.buffers.specs.Post.{Has};
-ghost use Rattle.runs.specs.Promises.{laidAt};
+ghost use Rattle.runs.specs.Until.{untilEmpty};
 ghost use Rattle.mergers.specs.Moves.{runLength};
 ghost use Rattle.mergers.specs.Subtree.{firstInput, secondInput, secondLink};
-ghost use Rattle.mergers.specs.Post.{wanted, Spot, Placed, Shifting, Moving, Ran, movedBy};
+ghost use Rattle.mergers.specs.Post.{wanted, Spot, Placed, Moving, Merging, Ran, movedBy, mergedBy};
 use rules::Link;
 
 // A buffer: its number, and the word at which its slots begin.
@@ -73,18 +73,6 @@ pub fn least(x: usize, y: usize) -> usize
     if x <= y { x } else { y }
 }
 
-// Copies a stretch of m words to another that it does not meet.
-pub fn shift(a: &mut [u64], to: usize, from: usize, m: usize)
-    requires { ⌜ Shifting (now a) to from m ⌝ }
-    ensures { λ _. ⌜ now (a .exit) ≡ laidAt (now (a .entry)) to (take m (drop from (now (a .entry)))) ⌝ }
-{
-    let mut i: usize = 0;
-    while i < m {
-        a[to + i] = a[from + i];
-        i += 1;
-    }
-}
-
 // Merge steps from one input alone, until it is empty or the room used up.
 pub fn move_steps(a: &mut [u64], out: Place, room: usize, one: Place) -> usize
     requires { ⌜ Moving (now a) (out .number) (out .at) room (one .number) (one .at) ⌝ }
@@ -96,8 +84,46 @@ pub fn move_steps(a: &mut [u64], out: Place, room: usize, one: Place) -> usize
     let m = least(room, buffers::count(a, k));
     let from = one.at + buffers::start_place(a, k);
     let to = out.at + buffers::start_place(a, n) + buffers::count(a, n);
-    shift(a, to, from, m);
+    runs::move_run(a, to, from, m);
     buffers::grow(a, n, m);
     buffers::drop_front(a, k, m);
     m
+}
+
+// Merge steps from two inputs, until one is empty or the room used up.
+pub fn merge_both(a: &mut [u64], out: Place, room: usize, one: Place, two: Place) -> usize
+    requires { ⌜ Merging (now a) (out .number) (out .at) room (one .number) (one .at) (two .number) (two .at) ⌝ }
+    ensures { λ r. ⌜ r ≡ untilEmpty wholeWord room (bufferOf (now (a .entry)) (one .number)) (bufferOf (now (a .entry)) (two .number)) ⌝ }
+    ensures { λ r. ⌜ Ran (now (a .entry)) (now (a .exit)) (out .number) (one .number) (two .number) (mergedBy r (now (a .entry)) (out .number) (one .number) (two .number)) ⌝ }
+{
+    let n = out.number;
+    let k = one.number;
+    let l = two.number;
+    let p = one.at + buffers::start_place(a, k);
+    let p_end = p + buffers::count(a, k);
+    let q = two.at + buffers::start_place(a, l);
+    let q_end = q + buffers::count(a, l);
+    let to = out.at + buffers::start_place(a, n) + buffers::count(a, n);
+    let run = runs::merge_run(a, to, p, p_end, q, q_end, room);
+    let m = run.moved;
+    let f = run.first;
+    buffers::grow(a, n, m);
+    buffers::drop_front(a, k, f);
+    buffers::drop_front(a, l, m - f);
+    m
+}
+
+// Merge steps from two inputs, until one that has entries is empty or the room used up.
+pub fn merge_steps(a: &mut [u64], out: Place, room: usize, one: Place, two: Place) -> usize
+    requires { ⌜ Merging (now a) (out .number) (out .at) room (one .number) (one .at) (two .number) (two .at) ⌝ }
+    ensures { λ r. ⌜ r ≡ runLength wholeWord room (bufferOf (now (a .entry)) (one .number)) (bufferOf (now (a .entry)) (two .number)) ⌝ }
+    ensures { λ r. ⌜ Ran (now (a .entry)) (now (a .exit)) (out .number) (one .number) (two .number) (mergedBy r (now (a .entry)) (out .number) (one .number) (two .number)) ⌝ }
+{
+    if buffers::count(a, one.number) == 0 {
+        return move_steps(a, out, room, two);
+    }
+    if buffers::count(a, two.number) == 0 {
+        return move_steps(a, out, room, one);
+    }
+    merge_both(a, out, room, one, two)
 }

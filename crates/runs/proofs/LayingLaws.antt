@@ -7,14 +7,13 @@ use Prim.Native.Nat.{ℕ, zero, suc, _+_, _-_, _≤_, _<_}
 use native.Mathlib.Omega.{arith}
 use native.Mathlib.Decide.{decLt}
 use native.Mathlib.Numerals.{add-one}
-use native.Mathlib.Nat.{zero-add, add-zero}
+use native.Mathlib.Nat.{zero-add, add-zero, sub-zero}
 use lib.Dec.{leb}
 use lib.ListN.{length, take, drop, getD, set, length-append, length-take, length-drop, length-set, take-append-drop, drop-of-length-le, List·getD-append}
-use lib.Seq.{drop-cons, set-at, append-snoc, length-take-le, take-all, take-length, drop-drop, take-suc, getD-append-add, getD-take, getD-drop, take-at, drop-at}
-use Rattle.rules.specs.Merge.{Merged, mergeStep, merged, move}
+use lib.Seq.{drop-cons, set-at, append-snoc, take-at, drop-at, take-append-seam, ext-getD, take-take, take-nil, length-take-le, take-all, drop-drop, take-suc, getD-append-add, getD-take, getD-drop}
+use Rattle.rules.specs.Merge.{merged}
 use Rattle.runs.specs.Until.{movesFirst}
-use Rattle.rules.specs.Entries.{wholeWord}
-use Rattle.runs.specs.Promises.{laidAt, Parts}
+use Rattle.runs.specs.Promises.{laidAt, stretch, Apart, Parts}
 use Rattle.runs.proofs.MergeLaws.{moves-first, moves-second, merged-more, length-out}
 
 -- ---- a run laid at a place
@@ -33,7 +32,13 @@ laid-more a at run k v e h =
     let cut : drop (at + length run) a ≡ getD a k 0 ∷ drop (suc (at + length run)) a = rw (← e) (drop-cons a k 0 h) in
     ap (λ l. set l k v) (ap (λ r. take at a ++ (run ++ r)) cut ∙ sym (append-assoc (take at a) run (getD a k 0 ∷ drop (suc (at + length run)) a)))
     ∙ set-at (take at a ++ run) (getD a k 0) (drop (suc (at + length run)) a) v k long
-    ∙ rw (e′, append-assoc, append-assoc)
+    ∙ rw e′ (append-assoc (take at a) run (v ∷ drop (suc (at + length run)) a) ∙ ap (λ l. take at a ++ l) (sym (append-snoc run v (drop (suc (at + length run)) a))))
+
+behind-at : (a p : List ℕ) (n i : ℕ) → length p ≡ n → n ≤ i → getD (p ++ drop n a) i 0 ≡ getD a i 0
+behind-at a p n i e h =
+    let place : i ≡ length p + (i - n) = omega arith in
+    let back : n + (i - n) ≡ i = omega arith in
+    ap (λ k. getD (p ++ drop n a) k 0) place ∙ getD-append-add p (drop n a) (i - n) 0 ∙ getD-drop n a (i - n) 0 ∙ ap (λ k. getD a k 0) back
 
 -- a word that the run does not cover
 pub laid-outside : (a : List ℕ) (at : ℕ) (run : List ℕ) (i : ℕ) → at + length run ≤ length a → (i < at) ⊎ (at + length run ≤ i) → getD (laidAt a at run) i 0 ≡ getD a i 0
@@ -41,19 +46,86 @@ laid-outside a at run i h (inl low) =
     List·getD-append (take at a) (run ++ drop (at + length run) a) 0 i (rw (length-take-le at a (omega arith)) low) ∙ getD-take at a i 0 low
 laid-outside a at run i h (inr high) =
     let long : length (take at a ++ run) ≡ at + length run = simp length-append (omega (arith, length-take-le at a (omega arith))) in
-    let place : i ≡ length (take at a ++ run) + (i - (at + length run)) = omega arith in
-    let back : at + length run + (i - (at + length run)) ≡ i = omega arith in
-    ap (λ l. getD l i 0) (sym (append-assoc (take at a) run (drop (at + length run) a)))
-    ∙ ap (λ k. getD ((take at a ++ run) ++ drop (at + length run) a) k 0) place
-    ∙ getD-append-add (take at a ++ run) (drop (at + length run) a) (i - (at + length run)) 0
-    ∙ getD-drop (at + length run) a (i - (at + length run)) 0
-    ∙ ap (λ k. getD a k 0) back
+    ap (λ l. getD l i 0) (sym (append-assoc (take at a) run (drop (at + length run) a))) ∙ behind-at a (take at a ++ run) (at + length run) i long high
 
 -- a run that covers everything
 pub laid-whole : (a run : List ℕ) → length run ≡ length a → laidAt a 0 run ≡ run
 laid-whole a run e =
     let past : length a ≤ 0 + length run = omega arith in
     ap (λ r. run ++ r) (drop-of-length-le a past) ∙ append-nil run
+
+-- the run itself
+pub laid-there : (a : List ℕ) (at : ℕ) (run : List ℕ) → at ≤ length a → stretch at (at + length run) (laidAt a at run) ≡ run
+laid-there a at run h =
+    let long : at + length run - at ≡ length run = omega arith in
+    ap (take (at + length run - at)) (drop-at (take at a) (run ++ drop (at + length run) a) at (length-take-le at a h))
+    ∙ rw long (take-append-seam run (drop (at + length run) a))
+
+-- a run, and another right behind it
+pub laid-on : (a : List ℕ) (at : ℕ) (run more : List ℕ) (k : ℕ) → k ≡ at + length run → k ≤ length a → laidAt (laidAt a at run) k more ≡ laidAt a at (run ++ more)
+laid-on a at run more k e h =
+    let rest = drop (at + length run) a in
+    let flat : laidAt a at run ≡ (take at a ++ run) ++ rest = sym (append-assoc (take at a) run rest) in
+    let long : length (take at a ++ run) ≡ k = simp length-append (omega (arith, length-take-le at a (omega arith))) in
+    let both : at + length run + length more ≡ at + length (run ++ more) = simp length-append (omega arith) in
+    let front : take k (laidAt a at run) ≡ take at a ++ run = ap (take k) flat ∙ take-at (take at a ++ run) rest k long in
+    let back : drop (k + length more) (laidAt a at run) ≡ drop (at + length (run ++ more)) a =
+    sym (drop-drop (length more) k (laidAt a at run)) ∙ ap (drop (length more)) (ap (drop k) flat ∙ drop-at (take at a ++ run) rest k long)
+    ∙ drop-drop (length more) (at + length run) a ∙ ap (λ n. drop n a) both in
+    rw (front, back) (append-assoc (take at a) run (more ++ drop (at + length (run ++ more)) a) ∙ ap (λ l. take at a ++ l) (sym (append-assoc run more (drop (at + length (run ++ more)) a))))
+
+-- ---- a stretch
+
+pub length-stretch : (a : List ℕ) (from end : ℕ) → end ≤ length a → length (stretch from end a) ≡ end - from
+length-stretch a from end inside = simp (length-take, length-drop) (omega arith)
+
+pub stretch-at : (a : List ℕ) (from end i : ℕ) → from + i < end → getD (stretch from end a) i 0 ≡ getD a (from + i) 0
+stretch-at a from end i h = getD-take (end - from) (drop from a) i 0 (omega arith) ∙ getD-drop from a i 0
+
+-- a position of one stretch lies before or behind the other
+pub apart-at : {from end from′ end′ : ℕ} → Apart from end from′ end′ → (p : ℕ) → from ≤ p → p < end → (p < from′) ⊎ (end′ ≤ p)
+apart-at {from} {end} {from′} {end′} apart p low high = go (decLt p from′) (decLt p end′)
+  where
+    go : Dec (p < from′) → Dec (p < end′) → (p < from′) ⊎ (end′ ≤ p)
+    go (yes before) d = inl before
+    go (no n) (yes inside) = absurd (apart p low high (omega arith) inside)
+    go (no n) (no behind) = inr (omega arith)
+
+-- a stretch that the run does not meet
+pub laid-apart : (a : List ℕ) (at : ℕ) (run : List ℕ) (from end : ℕ) → at + length run ≤ length a → end ≤ length a → Apart from end at (at + length run)
+    → stretch from end (laidAt a at run) ≡ stretch from end a
+laid-apart a at run from end h inside apart =
+    let same : end ≤ length (laidAt a at run) = rw (length-laid a at run h) inside in
+    let long : length (stretch from end (laidAt a at run)) ≡ end - from = length-stretch (laidAt a at run) from end same in
+    ext-getD 0 (stretch from end (laidAt a at run)) (stretch from end a) (long ∙ sym (length-stretch a from end inside)) (λ i low. each i (rw long at low))
+  where
+    each : (i : ℕ) → i < end - from → getD (stretch from end (laidAt a at run)) i 0 ≡ getD (stretch from end a) i 0
+    each i low =
+        let high : from + i < end = omega arith in
+        stretch-at (laidAt a at run) from end i high ∙ laid-outside a at run (from + i) h (apart-at apart (from + i) (omega arith) high) ∙ sym (stretch-at a from end i high)
+
+-- the first entries of a stretch, and those behind them
+pub stretch-take : (a : List ℕ) (from end n : ℕ) → from + n ≤ end → take n (stretch from end a) ≡ stretch from (from + n) a
+stretch-take a from end n h =
+    let many : from + n - from ≡ n = omega arith in
+    take-take n (end - from) (drop from a) (omega arith) ∙ ap (λ k. take k (drop from a)) (sym many)
+
+drop-take : (n m : ℕ) (l : List ℕ) → drop n (take m l) ≡ take (m - n) (drop n l)
+drop-take zero m l = ap (λ k. take k l) (sym (sub-zero m))
+drop-take (suc n) zero l =
+    let none : 0 - suc n ≡ 0 = omega arith in
+    sym (ap (λ k. take k (drop (suc n) l)) none)
+drop-take (suc n) (suc m) [] = sym (take-nil (suc m - suc n))
+drop-take (suc n) (suc m) (x ∷ l) =
+    let same : m - n ≡ suc m - suc n = omega arith in
+    drop-take n m l ∙ ap (λ k. take k (drop n l)) same
+
+pub stretch-drop : (a : List ℕ) (from end n : ℕ) → drop n (stretch from end a) ≡ stretch (from + n) end a
+stretch-drop a from end n =
+    let many : end - from - n ≡ end - (from + n) = omega arith in
+    drop-take n (end - from) (drop from a) ∙ ap (λ k. take k (drop n (drop from a))) many ∙ ap (take (end - (from + n))) (drop-drop n from a)
+
+-- ---- a copy
 
 -- i words of a run are copied
 pub record Copying (from to₀ to : List ℕ) (i : ℕ) : Type 0 where
@@ -191,16 +263,16 @@ module _ (key : ℕ → ℕ) where
       go (yes h) = h
       go (no h) = absurd (let e : _≡_ {A = Bool} true false = only-first xs ys i j (omega arith) (omega arith) ∙ t in let z : _≡_ {A = ℕ} 0 1 = cc in omega arith)
 
--- out is full
-pub parts : (xs ys out₀ out : List ℕ) (t i : ℕ) → Laying wholeWord xs ys out₀ out 0 t i → length out₀ ≤ t → Parts xs ys out₀ out i
-parts xs ys out₀ out t i l h =
-    let full : t ≡ length out₀ = omega arith in
-    let l′ : Laying wholeWord xs ys out₀ out 0 (length out₀) i = rw full at l in
-    record {
-      laid = l′ .laid ∙ laid-whole out₀ (merged wholeWord (length out₀) xs ys .out) (out-long wholeWord l′);
-      one = sym (l′ .one);
-      two = sym (l′ .two);
-      of-first = l′ .of-first;
-      of-both = l′ .of-both;
-      of-second = l′ .of-second;
-    }
+  -- out is full
+  pub parts : (xs ys out₀ out : List ℕ) (t i : ℕ) → Laying xs ys out₀ out 0 t i → length out₀ ≤ t → Parts key xs ys out₀ out i
+  parts xs ys out₀ out t i l h =
+      let full : t ≡ length out₀ = omega arith in
+      let l′ : Laying xs ys out₀ out 0 (length out₀) i = rw full at l in
+      record {
+        laid = l′ .laid ∙ laid-whole out₀ (merged key (length out₀) xs ys .out) (out-long l′);
+        one = sym (l′ .one);
+        two = sym (l′ .two);
+        of-first = l′ .of-first;
+        of-both = l′ .of-both;
+        of-second = l′ .of-second;
+      }

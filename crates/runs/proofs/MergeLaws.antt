@@ -1,15 +1,14 @@
 -- Laws of merge steps, for any order of the entries.
-use mathlib.Core.Path.{_≡_, refl, sym, ap, _∙_}
+use mathlib.Core.Path.{_≡_, refl, ap, _∙_}
 use mathlib.Core.Bool.{Bool, true, false}
-use mathlib.Core.List.{List, [], _∷_, _++_, append-assoc, append-nil}
+use mathlib.Core.List.{List, [], _∷_, _++_}
 use mathlib.Core.Logic.{_⊎_, inl, inr}
 use Prim.Native.Nat.{ℕ, zero, suc, _+_, _-_, _≤_, _<_}
 use native.Mathlib.Omega.{arith}
-use native.Mathlib.Numerals.{add-one}
 use native.Mathlib.Nat.{zero-add, suc-add}
 use lib.Dec.{leb}
-use lib.ListN.{length, take, drop, getD, length-append, length-take, length-drop}
-use Rattle.rules.specs.Merge.{Step, stop, move, Merged, mergeStep, merged, join}
+use lib.ListN.{length, take, drop}
+use Rattle.rules.specs.Merge.{Step, stop, move, Merged, mergeStep, merged}
 use Rattle.runs.specs.Until.{movesFirst, untilEmpty}
 
 -- what is reached: these entries are out, and this is left of the inputs

@@ -1,21 +1,28 @@
 -- Laws of merging that goes on until an input is empty.
 use mathlib.Core.Path.{_≡_, refl, sym, ap, _∙_}
-use mathlib.Core.Bool.{Bool, true, false}
-use mathlib.Core.List.{List, [], _∷_, _++_}
-use mathlib.Core.Logic.{_⊎_, inl, inr, ⊎-elim}
-use Prim.Native.Nat.{ℕ, suc, _+_, _-_, _≤_, _<_}
+use mathlib.Core.Bool.{true, false}
+use mathlib.Core.List.{List, []}
+use Prim.Native.Nat.{ℕ, suc, _+_, _-_, _*_, _≤_, _<_}
 use native.Mathlib.Omega.{arith}
 use native.Mathlib.Numerals.{add-one}
 use native.Mathlib.Nat.{zero-add, sub-zero}
 use lib.Dec.{leb}
-use lib.ListN.{length, take, drop, getD, set, length-take, length-drop, drop-of-length-le}
-use lib.Seq.{drop-cons, take-all, getD-take, getD-drop}
-use Rattle.rules.specs.Entries.{wholeWord}
-use Rattle.rules.specs.Merge.{Merged, merged}
+use lib.ListN.{length, take, drop, getD, set, length-drop, drop-of-length-le}
+use lib.Seq.{drop-cons, take-all}
+use denote.Ref.{RefT}
+use Rattle.rules.specs.Merge.{merged}
 use Rattle.runs.specs.Until.{Which, the-first, the-second, pick, outlasts, untilEmpty, untilEnd, joinUntilEnd}
-use Rattle.runs.specs.Promises.{laidAt, stretch, Apart, Joins, Merges}
+use Rattle.runs.specs.Promises.{EndOf, Joins}
 use Rattle.runs.proofs.MergeLaws.{until-first, until-second, until-some, until-no-room, until-no-first, until-no-second}
-use Rattle.runs.proofs.LayingLaws.{Laying, laying-start, lay-first, lay-second, both-heads, out-long, laid-outside}
+use Rattle.runs.proofs.LayingLaws.{Laying, laying-start, lay-first, lay-second, both-heads, out-long}
+
+to-the-end : (xs : List ℕ) (i : ℕ) → take (length xs - i) (drop i xs) ≡ drop i xs
+to-the-end xs i = take-all (length xs - i) (drop i xs) (simp length-drop (omega arith))
+
+end-of : (part run : RefT (List ℕ)) (i : ℕ) → i ≤ length (run .now) → part .ptr ≡ (run .ptr .0, i * 8 + run .ptr .1) → part .now ≡ drop i (run .now) → EndOf part run
+end-of part run i h at e =
+    let back : length (run .now) - length (part .now) ≡ i = rw (e, length-drop) (omega arith) in
+    record { starts = rw back at; words = rw back e }
 
 module _ (key : ℕ → ℕ) where
   -- t merge steps of those that the room allows are laid, i entries of them are the first input's
@@ -74,80 +81,43 @@ module _ (key : ℕ → ℕ) where
         let none : untilEmpty key (room - t) (drop i xs) (drop (t - i) ys) ≡ 0 = rw full (until-no-room key (drop i xs) (drop (t - i) ys)) in
         omega (arith, r .count)
 
--- ---- a joining has ended
+  -- ---- a joining has ended
 
-module _ {xs ys out₀ out : List ℕ} {t i : ℕ} (r : Running wholeWord xs ys out₀ out 0 (length xs + length ys) t i) where
-  joined : (run : Which) (rest : List ℕ) → t ≡ untilEnd wholeWord xs ys → outlasts (merged wholeWord t xs ys .two) ≡ run → pick run (drop i xs) (drop (t - i) ys) ≡ rest
-      → joinUntilEnd wholeWord xs ys ≡ record { laid = merged wholeWord t xs ys .out; run = run; rest = rest }
+  joined : {xs ys out₀ out : List ℕ} {t i : ℕ} → Running xs ys out₀ out 0 (length xs + length ys) t i → (run : Which) (rest : List ℕ) → t ≡ untilEnd key xs ys
+      → outlasts (merged key t xs ys .two) ≡ run → pick run (drop i xs) (drop (t - i) ys) ≡ rest
+      → joinUntilEnd key xs ys ≡ record { laid = merged key t xs ys .out; run = run; rest = rest }
   unfolding joinUntilEnd
-  joined run rest u o p = rw (← u, o, r .laying .one, r .laying .two, p)
+  joined r run rest u o p = rw (← u, o, r .laying .one, r .laying .two, p)
 
-  -- the second run has ended
-  pub joins-first : length ys ≤ t - i → Joins xs ys out₀ out (drop i xs)
-  unfolding pick outlasts
-  joins-first h =
-      let l = r .laying in
-      let none : merged wholeWord t xs ys .two ≡ [] = l .two ∙ drop-of-length-le ys h in
-      let j = joined the-first (drop i xs) (ended-second wholeWord r h) (ap outlasts none) refl in
-      let back : length xs - length (drop i xs) ≡ i = simp length-drop (omega arith) in
-      record {
-        laid = rw j (l .laid);
-        handed = rw j;
-        suffix = rw (j, back);
-        all = rw (j, out-long wholeWord l, length-drop) (omega arith);
-      }
+  module _ {xs ys : RefT (List ℕ)} {out₀ out : List ℕ} {t i : ℕ} (r : Running (xs .now) (ys .now) out₀ out 0 (length (xs .now) + length (ys .now)) t i) where
+    -- the second run has ended
+    pub joins-first : length (ys .now) ≤ t - i → (rest : RefT (List ℕ)) → rest .ptr ≡ (xs .ptr .0, i * 8 + xs .ptr .1) → rest .now ≡ take (length (xs .now) - i) (drop i (xs .now))
+        → Joins key xs ys out₀ out rest
+    unfolding pick outlasts
+    joins-first h rest at e =
+        let l = r .laying in
+        let none : merged key t (xs .now) (ys .now) .two ≡ [] = l .two ∙ drop-of-length-le (ys .now) h in
+        let j = joined r the-first (drop i (xs .now)) (ended-second r h) (ap outlasts none) refl in
+        let is : rest .now ≡ drop i (xs .now) = e ∙ to-the-end (xs .now) i in
+        record {
+          laid = rw j (l .laid);
+          handed = rw j is;
+          suffix = rw j (end-of rest xs i (l .of-first) at is);
+          all = rw (j, out-long key l, is, length-drop) (omega arith);
+        }
 
-  -- the first run has ended
-  pub joins-second : length xs ≤ i → t - i < length ys → Joins xs ys out₀ out (drop (t - i) ys)
-  unfolding pick outlasts
-  joins-second h more =
-      let l = r .laying in
-      let some : outlasts (merged wholeWord t xs ys .two) ≡ the-second = rw (l .two, drop-cons ys (t - i) 0 more) in
-      let j = joined the-second (drop (t - i) ys) (ended-first wholeWord r h) some refl in
-      let back : length ys - length (drop (t - i) ys) ≡ t - i = simp length-drop (omega arith) in
-      record {
-        laid = rw j (l .laid);
-        handed = rw j;
-        suffix = rw (j, back);
-        all = rw (j, out-long wholeWord l, length-drop) (omega arith);
-      }
-
--- a part that runs to the end of a run
-pub to-the-end : (xs : List ℕ) (i : ℕ) → take (length xs - i) (drop i xs) ≡ drop i xs
-to-the-end xs i = take-all (length xs - i) (drop i xs) (simp length-drop (omega arith))
-
--- ---- merge steps inside one array
-
-pub merges : {xs ys a₀ a : List ℕ} {at room t i : ℕ} → Running wholeWord xs ys a₀ a at room t i → t ≡ untilEmpty wholeWord room xs ys → Merges xs ys a₀ a at room t i
-merges r e =
-    let l = r .laying in
-    record {
-      steps = e;
-      laid = l .laid;
-      one = sym (l .one);
-      two = sym (l .two);
-      of-first = l .of-first;
-      of-both = l .of-both;
-      of-second = l .of-second;
-      within = r .within;
-    }
-
--- the words of a stretch
-module _ (a : List ℕ) (from end : ℕ) (inside : end ≤ length a) where
-  pub length-stretch : length (stretch from end a) ≡ end - from
-  length-stretch = simp (length-take, length-drop) (omega arith)
-
-  pub stretch-at : (i : ℕ) → from ≤ i → i < end → getD (stretch from end a) (i - from) 0 ≡ getD a i 0
-  stretch-at i low high =
-      let back : from + (i - from) ≡ i = omega arith in
-      getD-take (end - from) (drop from a) (i - from) 0 (omega arith) ∙ getD-drop from a (i - from) 0 ∙ ap (λ k. getD a k 0) back
-
--- a word of an input, read while the output is laid
-pub input-kept : {xs ys a₀ a : List ℕ} {out room t i : ℕ} → Running wholeWord xs ys a₀ a out room t i → (from end : ℕ) → Apart from end out (out + room)
-    → (p : ℕ) → from ≤ p → p < end → getD a p 0 ≡ getD a₀ p 0
-input-kept {xs} {ys} {a₀} {a} {out} {room} {t} r from end apart p low high =
-    let long = out-long wholeWord (r .laying) in
-    let inside : out + length (merged wholeWord t xs ys .out) ≤ length a₀ = omega (arith, r .laying .inside) in
-    let outside : Apart from end out (out + room) → (p < out) ⊎ (out + length (merged wholeWord t xs ys .out) ≤ p) =
-    ⊎-elim (λ before. inl (omega arith)) (λ behind. inr (omega (arith, r .within))) in
-    ap (λ l. getD l p 0) (r .laying .laid) ∙ laid-outside a₀ out (merged wholeWord t xs ys .out) p inside (outside apart)
+    -- the first run has ended
+    pub joins-second : length (xs .now) ≤ i → t - i < length (ys .now) → (rest : RefT (List ℕ)) → rest .ptr ≡ (ys .ptr .0, (t - i) * 8 + ys .ptr .1)
+        → rest .now ≡ take (length (ys .now) - (t - i)) (drop (t - i) (ys .now)) → Joins key xs ys out₀ out rest
+    unfolding pick outlasts
+    joins-second h more rest at e =
+        let l = r .laying in
+        let some : outlasts (merged key t (xs .now) (ys .now) .two) ≡ the-second = rw (l .two, drop-cons (ys .now) (t - i) 0 more) in
+        let j = joined r the-second (drop (t - i) (ys .now)) (ended-first r h) some refl in
+        let is : rest .now ≡ drop (t - i) (ys .now) = e ∙ to-the-end (ys .now) (t - i) in
+        record {
+          laid = rw j (l .laid);
+          handed = rw j is;
+          suffix = rw j (end-of rest ys (t - i) (l .of-second) at is);
+          all = rw (j, out-long key l, is, length-drop) (omega arith);
+        }

@@ -4,7 +4,7 @@ use Prim.Native.Nat.{_+_, _≤_, min}
 use native.Mathlib.Omega.{arith}
 use Rattle.buffers.specs.Format.{countOf, headOf}
 use Rattle.buffers.proofs.ArrayLaws.{buffer-length}
-use Rattle.mergers.proofs.MoveLaws.{shifting, move-growing, move-dropping, move-dropped}
+use Rattle.mergers.proofs.MoveLaws.{moving-run, move-growing, move-dropping, move-dropped}
 use borrow.Author.Needs.{needs}
 use Rattle.mergers.proofs.move_steps.Statement.{statement}
 use Rattle.mergers.proofs.move_steps.Tie as tie
@@ -36,8 +36,8 @@ add-to-2 c =
     let h = z .pre in
     omega (arith, buffer-length (z .args .a .now) (z .args .out .number) (h .output .of), c .count2 .ensures, c .before .before .before .start-place2 .ensures, h .output .begins, h .free, h .output .of .slots)
 
-shift-requires : tie.Need-shift-requires
-shift-requires c κs =
+move-run-requires : tie.Need-move-run-requires
+move-run-requires c κs =
     let z = c .before .before .before .before .before .before .before .before .before .before .before .before .before in
     let ws = z .args .a .now in
     let h = z .pre in
@@ -48,7 +48,7 @@ shift-requires c κs =
     let from : z .args .one .at + c .before .before .before .before .before .before .before .start-place .result ≡ headOf ws (z .args .one .number) = omega (arith, c .before .before .before .before .before .before .before .start-place .ensures, h .input .begins) in
     let to : z .args .out .at + c .before .before .before .before .start-place2 .result + c .before .count2 .result ≡ headOf ws (z .args .out .number) + countOf ws (z .args .out .number) =
     omega (arith, c .before .before .before .before .start-place2 .ensures, c .before .count2 .ensures, buffer-length ws (z .args .out .number) (h .output .of), h .output .begins) in
-    shifting ws (z .args .out .number) (z .args .out .at) (z .args .room) (z .args .one .number) (z .args .one .at) h m small less _ _ from to
+    moving-run ws (z .args .out .number) (z .args .out .at) (z .args .room) (z .args .one .number) (z .args .one .at) h m small less _ _ from to
 
 grow-requires : tie.Need-grow-requires
 grow-requires c κs =
@@ -62,7 +62,7 @@ grow-requires c κs =
     let from : z .args .one .at + c .before .before .before .before .before .before .before .before .before .before .before .start-place .result ≡ headOf ws (z .args .one .number) = omega (arith, c .before .before .before .before .before .before .before .before .before .before .before .start-place .ensures, h .input .begins) in
     let to : z .args .out .at + c .before .before .before .before .before .before .before .before .start-place2 .result + c .before .before .before .before .before .count2 .result ≡ headOf ws (z .args .out .number) + countOf ws (z .args .out .number) =
     omega (arith, c .before .before .before .before .before .before .before .before .start-place2 .ensures, c .before .before .before .before .before .count2 .ensures, buffer-length ws (z .args .out .number) (h .output .of), h .output .begins) in
-    move-growing ws (z .args .out .number) (z .args .out .at) (z .args .room) (z .args .one .number) (z .args .one .at) h m small less _ _ from to _ (c .before .before .before .shift .ensures)
+    move-growing ws (z .args .out .number) (z .args .out .at) (z .args .room) (z .args .one .number) (z .args .one .at) h m small less _ _ from to _ (c .before .before .before .move-run .ensures)
 
 drop-front-requires : tie.Need-drop-front-requires
 drop-front-requires c κs =
@@ -76,7 +76,7 @@ drop-front-requires c κs =
     let from : z .args .one .at + c .before .before .before .before .before .before .before .before .before .before .before .before .before .before .before .start-place .result ≡ headOf ws (z .args .one .number) = omega (arith, c .before .before .before .before .before .before .before .before .before .before .before .before .before .before .before .start-place .ensures, h .input .begins) in
     let to : z .args .out .at + c .before .before .before .before .before .before .before .before .before .before .before .before .start-place2 .result + c .before .before .before .before .before .before .before .before .before .count2 .result ≡ headOf ws (z .args .out .number) + countOf ws (z .args .out .number) =
     omega (arith, c .before .before .before .before .before .before .before .before .before .before .before .before .start-place2 .ensures, c .before .before .before .before .before .before .before .before .before .count2 .ensures, buffer-length ws (z .args .out .number) (h .output .of), h .output .begins) in
-    move-dropping ws (z .args .out .number) (z .args .out .at) (z .args .room) (z .args .one .number) (z .args .one .at) h m small less _ _ from to _ (c .before .before .before .before .before .before .before .shift .ensures) _ (c .before .before .before .grow .ensures .0) (c .before .before .before .grow .ensures .1)
+    move-dropping ws (z .args .out .number) (z .args .out .at) (z .args .room) (z .args .one .number) (z .args .one .at) h m small less _ _ from to _ (c .before .before .before .before .before .before .before .move-run .ensures) _ (c .before .before .before .grow .ensures .0) (c .before .before .before .grow .ensures .1)
 
 same-length : tie.Need-same-length
 same-length c = search needs
@@ -94,7 +94,7 @@ returns c =
     let to : z .args .out .at + c .before .before .before .before .before .before .before .before .before .before .before .before .before .before .before .start-place2 .result + c .before .before .before .before .before .before .before .before .before .before .before .before .count2 .result ≡ headOf ws (z .args .out .number) + countOf ws (z .args .out .number) =
     omega (arith, c .before .before .before .before .before .before .before .before .before .before .before .before .before .before .before .start-place2 .ensures, c .before .before .before .before .before .before .before .before .before .before .before .before .count2 .ensures, buffer-length ws (z .args .out .number) (h .output .of), h .output .begins) in (
       c .before .before .before .before .before .before .before .before .before .before .before .before .before .before .before .before .before .before .before .before .least .ensures ∙ ap (min (z .args .room)) (c .before .before .before .before .before .before .before .before .before .before .before .before .before .before .before .before .before .before .before .before .before .count .ensures),
-      move-dropped ws (z .args .out .number) (z .args .out .at) (z .args .room) (z .args .one .number) (z .args .one .at) h m small less _ _ from to _ (c .before .before .before .before .before .before .before .before .before .before .shift .ensures) _ (c .before .before .before .before .before .before .grow .ensures .0) (c .before .before .before .before .before .before .grow .ensures .1) _ (c .before .before .drop-front .ensures .0) (c .before .before .drop-front .ensures .1),
+      move-dropped ws (z .args .out .number) (z .args .out .at) (z .args .room) (z .args .one .number) (z .args .one .at) h m small less _ _ from to _ (c .before .before .before .before .before .before .before .before .before .before .move-run .ensures) _ (c .before .before .before .before .before .before .grow .ensures .0) (c .before .before .before .before .before .before .grow .ensures .1) _ (c .before .before .drop-front .ensures .0) (c .before .before .drop-front .ensures .1),
     )
 
 pub move-steps-spec : {M : Type 1} → statement M
@@ -109,7 +109,7 @@ move-steps-spec =
     add-to
     count-requires-2
     add-to-2
-    shift-requires
+    move-run-requires
     grow-requires
     drop-front-requires
     same-length

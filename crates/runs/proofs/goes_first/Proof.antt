@@ -1,3 +1,4 @@
+-- The comparison is the code's own.
 use mathlib.Core.Path.{refl}
 use Rattle.rules.specs.Entries.{wholeWord}
 use Rattle.runs.proofs.goes_first.Statement.{statement}

@@ -1,3 +1,4 @@
+-- The loop keeps: t merge steps of those until a run ends are laid, i of them the first run's.
 use mathlib.Core.Path.{refl, sym, _∙_}
 use mathlib.Core.Logic.{⊎-elim}
 use native.Mathlib.Omega.{arith}
@@ -5,12 +6,9 @@ use native.Mathlib.Nat.{zero-add}
 use Prim.Native.Nat.{_+_, _-_}
 use lib.ListN.{length}
 use Rattle.rules.specs.Entries.{wholeWord}
-use Rattle.runs.proofs.RunningLaws.{Running, running-start, run-on, run-first, run-second, joins-first, joins-second, to-the-end}
+use Rattle.runs.proofs.RunningLaws.{Running, running-start, run-on, run-first, run-second, joins-first, joins-second}
 use Rattle.runs.proofs.join.Statement.{statement}
 use Rattle.runs.proofs.join.Tie as tie
-use Rattle.runs.proofs.join.Reads as reads
-use Rattle.runs.proofs.join.Lts as lts
-use Rattle.runs.proofs.goes_first.Reads as goes-first-reads
 
 abbrev Inv-loop : tie.InvT-loop
 Inv-loop xs ys out₀ i₀ t₀ out i t = Running wholeWord xs ys out₀ out 0 (length xs + length ys) t i
@@ -18,87 +16,66 @@ Inv-loop xs ys out₀ i₀ t₀ out i t = Running wholeWord xs ys out₀ out 0 (
 abbrev μ-loop : tie.MeasureT-loop
 μ-loop xs ys out₀ i₀ t₀ out i t = length xs + length ys - t
 
--- src/lib.rt:58:5
 loop-holds : tie.Need-loop-holds Inv-loop μ-loop
 loop-holds c = running-start wholeWord _ _ _ 0 _ (omega arith)
 
--- src/lib.rt:59:17
 sub-j : tie.Need-sub-j Inv-loop μ-loop
 sub-j c = omega arith
 
--- src/lib.rt:61:20
 mul-result : tie.Need-mul-result Inv-loop μ-loop
 mul-result c = omega arith
 
--- src/lib.rt:61:20
 sub-result : tie.Need-sub-result Inv-loop μ-loop
 sub-result c = omega arith
 
--- src/lib.rt:61:20
 part-result-start : tie.Need-part-result-start Inv-loop μ-loop
 part-result-start c = omega arith
 
--- src/lib.rt:61:20
 part-result-end : tie.Need-part-result-end Inv-loop μ-loop
 part-result-end c = omega arith
 
--- src/lib.rt:61:13
 same-length : tie.Need-same-length Inv-loop μ-loop
 same-length c = omega arith
 
--- src/lib.rt:61:13
 returns : tie.Need-returns Inv-loop μ-loop
-returns c = rw to-the-end (joins-first (c .before .before .before .loop .inv) (c .before .if1 .taken))
+returns c = joins-first wholeWord (c .before .before .before .loop .inv) (c .before .if1 .taken) _ refl refl
 
--- src/lib.rt:63:17
 mul-x : tie.Need-mul-x Inv-loop μ-loop
 mul-x c = omega arith
 
--- src/lib.rt:63:17
 shared-slice-read-x : tie.Need-shared-slice-read-x Inv-loop μ-loop
 shared-slice-read-x c = omega arith
 
--- src/lib.rt:64:17
 mul-y : tie.Need-mul-y Inv-loop μ-loop
 mul-y c = omega arith
 
--- src/lib.rt:64:17
 shared-slice-read-y : tie.Need-shared-slice-read-y Inv-loop μ-loop
 shared-slice-read-y c = omega arith
 
--- src/lib.rt:65:12
 goes-first-requires : tie.Need-goes-first-requires Inv-loop μ-loop
 goes-first-requires c κs = tt
 
--- src/lib.rt:66:13
 mul-out : tie.Need-mul-out Inv-loop μ-loop
 mul-out c = omega arith
 
--- src/lib.rt:66:13
 slice-write-out : tie.Need-slice-write-out Inv-loop μ-loop
 slice-write-out c = omega (arith, run-on wholeWord (c .before .before .before .before .before .before .loop .inv) (omega arith) (omega arith) (omega arith))
 
--- src/lib.rt:67:13
 add-i : tie.Need-add-i Inv-loop μ-loop
 add-i c = omega arith
 
--- src/lib.rt:69:13
 mul-out-2 : tie.Need-mul-out-2 Inv-loop μ-loop
 mul-out-2 c = omega arith
 
--- src/lib.rt:69:13
 slice-write-out-2 : tie.Need-slice-write-out-2 Inv-loop μ-loop
 slice-write-out-2 c = omega (arith, run-on wholeWord (c .before .before .before .before .before .before .loop .inv) (omega arith) (omega arith) (omega arith))
 
--- src/lib.rt:71:9
 add-t : tie.Need-add-t Inv-loop μ-loop
 add-t c = omega arith
 
--- src/lib.rt:58:5
 loop-less : tie.Need-loop-less Inv-loop μ-loop
 loop-less c = omega arith
 
--- src/lib.rt:58:5
 loop-again : tie.Need-loop-again Inv-loop μ-loop
 loop-again c =
     let r = c .before .before .before .before .before .before .loop .inv in
@@ -108,57 +85,44 @@ loop-again c =
     (λ w. rw (w .1, w .2) (run-second wholeWord r (omega arith) (omega arith) (omega arith) _ _ _ (sym (zero-add _)) (omega (arith, run-on wholeWord r (omega arith) (omega arith) (omega arith))) refl refl (sym e ∙ w .0 .left)))
     (c .if2 .came)
 
--- src/lib.rt:73:13
 sub-j-2 : tie.Need-sub-j-2 Inv-loop μ-loop
 sub-j-2 c = omega arith
 
--- src/lib.rt:75:16
 mul-result-2 : tie.Need-mul-result-2 Inv-loop μ-loop
 mul-result-2 c = omega arith
 
--- src/lib.rt:75:16
 sub-result-2 : tie.Need-sub-result-2 Inv-loop μ-loop
 sub-result-2 c = omega arith
 
--- src/lib.rt:75:16
 part-result-start-2 : tie.Need-part-result-start-2 Inv-loop μ-loop
 part-result-start-2 c = omega arith
 
--- src/lib.rt:75:16
 part-result-end-2 : tie.Need-part-result-end-2 Inv-loop μ-loop
 part-result-end-2 c = omega arith
 
--- src/lib.rt:75:9
 same-length-2 : tie.Need-same-length-2 Inv-loop μ-loop
 same-length-2 c = omega arith
 
--- src/lib.rt:75:9
 returns-2 : tie.Need-returns-2 Inv-loop μ-loop
-returns-2 c = rw to-the-end (joins-second (c .before .before .before .loop .inv) (c .before .before .loop-test .left) (c .before .if3 .taken))
+returns-2 c = joins-second wholeWord (c .before .before .before .loop .inv) (c .before .before .loop-test .left) (c .before .if3 .taken) _ refl refl
 
--- src/lib.rt:77:5
 mul-result-3 : tie.Need-mul-result-3 Inv-loop μ-loop
 mul-result-3 c = omega arith
 
--- src/lib.rt:77:5
 sub-result-3 : tie.Need-sub-result-3 Inv-loop μ-loop
 sub-result-3 c = omega arith
 
--- src/lib.rt:77:5
 part-result-start-3 : tie.Need-part-result-start-3 Inv-loop μ-loop
 part-result-start-3 c = omega arith
 
--- src/lib.rt:77:5
 part-result-end-3 : tie.Need-part-result-end-3 Inv-loop μ-loop
 part-result-end-3 c = omega arith
 
--- src/lib.rt:52:1
 same-length-3 : tie.Need-same-length-3 Inv-loop μ-loop
 same-length-3 c = omega arith
 
--- src/lib.rt:52:1
 returns-3 : tie.Need-returns-3 Inv-loop μ-loop
-returns-3 c = rw to-the-end (joins-first (c .before .before .before .loop .inv) (c .before .if3 .left))
+returns-3 c = joins-first wholeWord (c .before .before .before .loop .inv) (c .before .if3 .left) _ refl refl
 
 pub join-spec : {M : Type 1} → statement M
 join-spec =

@@ -1,37 +1,28 @@
+-- What the copier leaves in the lent part, said of the whole array.
 use mathlib.Core.Path.{refl}
 use Rattle.runs.proofs.LayingLaws.{lay-part}
 use borrow.Author.Needs.{needs}
 use Rattle.runs.proofs.lay.Statement.{statement}
 use Rattle.runs.proofs.lay.Tie as tie
-use Rattle.runs.proofs.lay.Reads as reads
-use Rattle.runs.proofs.lay.Lts as lts
-use Rattle.runs.proofs.copy.Reads as copy-reads
 
--- src/lib.rt:68:16
 mul-copy : tie.Need-mul-copy
 mul-copy c = search needs
 
--- src/lib.rt:68:16
 sub-copy : tie.Need-sub-copy
 sub-copy c = search needs
 
--- src/lib.rt:68:16
 part-copy-start : tie.Need-part-copy-start
 part-copy-start c = search needs
 
--- src/lib.rt:68:16
 part-copy-end : tie.Need-part-copy-end
 part-copy-end c = search needs
 
--- src/lib.rt:68:5
 copy-requires : tie.Need-copy-requires
 copy-requires c κs = search needs
 
--- src/lib.rt:64:1
 same-length : tie.Need-same-length
 same-length c = search needs
 
--- src/lib.rt:64:1
 returns : tie.Need-returns
 returns c =
     let s = c .before .before .before .before .before .before in
