@@ -13,9 +13,10 @@ use lib.Seq.{drop-cons}
 use Rattle.rules.specs.Tests.{_and_, every}
 use Rattle.rules.specs.Links.{s, k, levels, first, depthOf, capacity, start, offset, bufferCount, words, LinkNumber, InLink}
 use Rattle.rules.specs.Tree.{Buffers, Tree, exhausted, buffer, merger, entries, put, perfect, kMerger, linksFrom}
-use Rattle.rules.proofs.Table.{and-one, and-two, every-at, each-link, k-least, first-most, first-at, words-at}
+use Rattle.rules.proofs.Table.{and-one, and-two, every-at, each-link, k-least, first-most, first-at, words-at, in-link}
 use Rattle.buffers.specs.Slots.{base}
 use Rattle.buffers.proofs.SlotLaws.{base-is, in-words}
+use Rattle.mergers.specs.Post.{Spot, Fed}
 use Rattle.mergers.specs.Subtree.{subtree, firstInput, secondInput, secondLink}
 
 -- ---- depths, by one computed test over all links
@@ -134,3 +135,31 @@ base-below {i} {j} h = omega (arith, in-words four (first i + j) (omega (arith, 
 
     four-words : words 4 ≡ 28436
     four-words = sym (words-at 4 tt refl tt)
+
+pub spot : {i j : ℕ} → InLink i j → Spot i j
+spot h = record { low = h .link .low; high = omega (arith, h .link .high); few = h .few; inside = λ most. h }
+
+-- the inputs' places
+pub first-spot : {i j : ℕ} → Fed i j → Spot i (firstInput j)
+first-spot {i} {j} h = go j (h .above) (h .inside .few)
+  where
+    go : (j : ℕ) → j < k i → j < 32 → Spot i (firstInput j)
+    go zero above few = spot (in-link (h .inside .link) (omega (arith, k-least (h .inside .link))))
+    go (suc j) above few = spot (in-link (h .inside .link) (omega arith))
+
+pub second-spot : {i j : ℕ} → Fed i j → Spot (secondLink i j) (secondInput j)
+second-spot {i} {j} h = go j (h .above)
+  where
+    next : Spot (suc i) 0
+    next = record {
+      low = omega arith;
+      high = omega (arith, h .inside .link .high);
+      few = omega arith;
+      inside = λ most.
+          let l : LinkNumber (suc i) = record { low = omega arith; high = most } in
+          in-link l (omega (arith, k-least l));
+    }
+
+    go : (j : ℕ) → j < k i → Spot (secondLink i j) (secondInput j)
+    go zero above = next
+    go (suc j) above = spot (in-link (h .inside .link) (omega arith))

@@ -155,3 +155,8 @@ module _ (key : ℕ → ℕ) where
   run-both room [] ys some others = absurd (omega arith)
   run-both room (x ∷ xs) [] some others = absurd (omega arith)
   run-both room (x ∷ xs) (y ∷ ys) some others = refl
+
+  pub run-one : (room : ℕ) (xs : List ℕ) → runLength key room xs [] ≡ min room (length xs)
+  unfolding runLength
+  run-one room [] = refl
+  run-one room (x ∷ xs) = refl

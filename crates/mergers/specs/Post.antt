@@ -4,10 +4,10 @@ use mathlib.Core.Logic.{_≢_, _⊎_}
 use mathlib.Core.Bool.{Bool, true, false, not}
 use Prim.Native.Nat.{ℕ, _+_, _-_, _≤_, _<_, min}
 use mathlib.Core.List.{List, [], _∷_, _++_}
-use lib.Dec.{eqb}
+use lib.Dec.{eqb, leb}
 use lib.ListN.{length, getD, set, take, drop}
 use Rattle.rules.specs.Entries.{wholeWord}
-use Rattle.rules.specs.Links.{first, InLink}
+use Rattle.rules.specs.Links.{k, first, InLink}
 use Rattle.rules.specs.Merge.{merged}
 use Rattle.rules.specs.Tree.{Buffers}
 use Rattle.rules.specs.Tests.{_and_}
@@ -20,6 +20,10 @@ use Rattle.mergers.specs.Moves.{runLength}
 abbrev pub wanted : List ℕ → ℕ → Bool
 wanted ws n = eqb (countOf ws n) 0 and not (eqb (markOf ws n) 1)
 
+-- the same of an input in link i, where links behind `last` count as exhausted
+abbrev pub wantedIn : List ℕ → ℕ → ℕ → ℕ → Bool
+wantedIn ws last i n = leb i last and wanted ws n
+
 -- link i's buffer j, or A of the link behind the last that there is, which has no slots
 pub record Spot (i j : ℕ) : Type 0 where
   pub low : 1 ≤ i
@@ -30,6 +34,11 @@ pub record Spot (i j : ℕ) : Type 0 where
 pub record Placed (i j n p : ℕ) : Type 0 where
   pub number : n ≡ first i + j
   pub at : i ≤ 4 → p ≡ base (first i + j)
+
+-- a buffer that a merger feeds
+pub record Fed (i j : ℕ) : Type 0 where
+  pub inside : InLink i j
+  pub above : j < k i
 
 -- a buffer and the word at which its slots begin
 pub record At (ws : List ℕ) (n p : ℕ) : Type 0 where
@@ -47,6 +56,11 @@ pub record Merging (ws : List ℕ) (out to room one from two other : ℕ) : Type
   pub first : Moving ws out to room one from
   pub second : Moving ws out to room two other
   pub differ : one ≢ two
+
+-- the second input is in link i, and counts as exhausted where that lies behind `last`
+pub record Turning (ws : List ℕ) (last i out to room one from two other : ℕ) : Type 0 where
+  pub first : Moving ws out to room one from
+  pub both : i ≤ last → Merging ws out to room one from two other
 
 -- what merge steps leave: the buffers are these, and marks, start place of the output and words of other buffers are as before
 pub record Ran (ws ws′ : List ℕ) (out one two : ℕ) (bs : Buffers) : Type 0 where
@@ -66,3 +80,12 @@ abbrev pub mergedBy : ℕ → List ℕ → ℕ → ℕ → ℕ → Buffers
 mergedBy m ws out one two =
     let z = merged wholeWord m (bufferOf ws one) (bufferOf ws two) in
     set (set (set (buffersOf ws) out (bufferOf ws out ++ z .out)) one (z .one)) two (z .two)
+
+-- what a merger sees of its second input; and what merge steps then leave
+abbrev pub seenIf : Bool → List ℕ → List ℕ
+seenIf true es = es
+seenIf false es = []
+
+abbrev pub turnedBy : Bool → ℕ → List ℕ → ℕ → ℕ → ℕ → Buffers
+turnedBy true m ws out one two = mergedBy m ws out one two
+turnedBy false m ws out one two = movedBy m ws out one

@@ -1,14 +1,16 @@
 // Mergers: filling a buffer from its inputs, down the tree.
 ghost use mathlib.Core.Path.{_≡_};
 ghost use Prim.Native.Nat.{ℕ, suc, _+_, _*_, _≤_, _<_, min};
+ghost use lib.Dec.{leb};
 ghost use lib.ListN.{length};
 ghost use Rattle.rules.specs.Entries.{wholeWord};
+ghost use Rattle.rules.specs.Links.{capacity};
 ghost use Rattle.buffers.specs.Format.{bufferOf, buffersOf};
 ghost use Rattle.buffers.specs.Post.{Has};
 ghost use Rattle.runs.specs.Until.{untilEmpty};
 ghost use Rattle.mergers.specs.Moves.{runLength};
 ghost use Rattle.mergers.specs.Subtree.{firstInput, secondInput, secondLink};
-ghost use Rattle.mergers.specs.Post.{wanted, Spot, Placed, Moving, Merging, Ran, movedBy, mergedBy};
+ghost use Rattle.mergers.specs.Post.{wanted, Spot, Placed, Moving, Fed, Merging, Turning, Ran, wantedIn, movedBy, mergedBy, seenIf, turnedBy};
 use rules::Link;
 
 // A buffer: its number, and the word at which its slots begin.
@@ -53,6 +55,42 @@ pub fn second_link(i: usize, j: usize) -> usize
     ensures { λ r. ⌜ r ≡ secondLink i j ⌝ }
 {
     if j == 0 { i + 1 } else { i }
+}
+
+// A merger: its output with its capacity, and its two inputs; the first is buffer `first` of the same link, the second is buffer `second` of link `link`.
+pub struct Merger {
+    pub out: Place,
+    pub room: usize,
+    pub one: Place,
+    pub first: usize,
+    pub two: Place,
+    pub second: usize,
+    pub link: usize,
+}
+
+// The merger whose output is link i's buffer j.
+pub fn merger_of(i: usize, j: usize) -> Merger
+    requires { ⌜ Fed i j ⌝ }
+    ensures out { λ r. ⌜ Placed i j (r .out .number) (r .out .at) ⌝ }
+    ensures room { λ r. ⌜ r .room ≡ capacity i j ⌝ }
+    ensures one { λ r. ⌜ Placed i (firstInput j) (r .one .number) (r .one .at) ⌝ }
+    ensures first { λ r. ⌜ r .first ≡ firstInput j ⌝ }
+    ensures two { λ r. ⌜ Placed (secondLink i j) (secondInput j) (r .two .number) (r .two .at) ⌝ }
+    ensures second { λ r. ⌜ r .second ≡ secondInput j ⌝ }
+    ensures link { λ r. ⌜ r .link ≡ secondLink i j ⌝ }
+{
+    let first = first_input(j);
+    let second = second_input(j);
+    let link = second_link(i, j);
+    Merger {
+        out: place_of(i, j),
+        room: Link::at(i).capacity(j),
+        one: place_of(i, first),
+        first,
+        two: place_of(link, second),
+        second,
+        link,
+    }
 }
 
 // Whether an input is to be filled: it is empty and not known to be exhausted.
@@ -126,4 +164,27 @@ pub fn merge_steps(a: &mut [u64], out: Place, room: usize, one: Place, two: Plac
         return move_steps(a, out, room, one);
     }
     merge_both(a, out, room, one, two)
+}
+
+// Whether an input in link i is to be filled, where links behind `last` count as exhausted.
+pub fn wants_in(a: &[u64], last: usize, i: usize, n: usize) -> bool
+    requires { ⌜ (i ≤ last → Has (now a) n) ⌝ }
+    ensures { λ r. ⌜ r ≡ wantedIn (now (a .entry)) last i n ⌝ }
+{
+    if i <= last {
+        return wants(a, n);
+    }
+    false
+}
+
+// Merge steps of one turn; the second input is in link i, where links behind `last` count as exhausted.
+pub fn turn_steps(a: &mut [u64], last: usize, i: usize, out: Place, room: usize, one: Place, two: Place) -> usize
+    requires { ⌜ Turning (now a) last i (out .number) (out .at) room (one .number) (one .at) (two .number) (two .at) ⌝ }
+    ensures { λ r. ⌜ r ≡ runLength wholeWord room (bufferOf (now (a .entry)) (one .number)) (seenIf (leb i last) (bufferOf (now (a .entry)) (two .number))) ⌝ }
+    ensures { λ r. ⌜ Ran (now (a .entry)) (now (a .exit)) (out .number) (one .number) (two .number) (turnedBy (leb i last) r (now (a .entry)) (out .number) (one .number) (two .number)) ⌝ }
+{
+    if i <= last {
+        return merge_steps(a, out, room, one, two);
+    }
+    move_steps(a, out, room, one)
 }

@@ -8,9 +8,9 @@ use denote.Ref.{RefT}
 use lib.ListN.{length, drop, length-drop}
 use Rattle.rules.specs.Merge.{merged, join}
 use Rattle.runs.specs.Until.{joinUntilEnd}
-use Rattle.runs.specs.Promises.{stretch, Parts, Joins, Merges}
+use Rattle.runs.specs.Promises.{laidAt, stretch, Parts, Joins, Merges}
 use Rattle.runs.proofs.MergeLaws.{reached, behind, merged-one, merged-two, merged-split, length-out, until-some, until-ends}
-use Rattle.runs.proofs.LayingLaws.{stretch-take, stretch-drop}
+use Rattle.runs.proofs.LayingLaws.{laid-on, stretch-take, stretch-drop}
 use Rattle.runs.proofs.JoinLaws.{join-split, join-whole}
 
 -- a rest tells how many entries went before it
@@ -37,6 +37,14 @@ module _ (key : ℕ → ℕ) where
 
   pub joins-whole : {xs ys rest : RefT (List ℕ)} {out out′ : List ℕ} → Joins key xs ys out out′ rest → joinUntilEnd key (xs .now) (ys .now) .laid ++ rest .now ≡ join key (xs .now) (ys .now)
   joins-whole {xs} {ys} j = rw (j .handed) (join-whole key (xs .now) (ys .now))
+
+  -- the rest, laid behind what the joining laid, makes the joined run whole
+  pub joins-laid : {xs ys rest : RefT (List ℕ)} {out out′ : List ℕ} → Joins key xs ys out out′ rest → (n : ℕ) → n ≡ length (xs .now) + length (ys .now) - length (rest .now)
+      → length (xs .now) + length (ys .now) ≤ length out → laidAt out′ n (rest .now) ≡ laidAt out 0 (join key (xs .now) (ys .now))
+  joins-laid {xs} {ys} {rest} {out} j n e room =
+      ap (λ l. laidAt l n (rest .now)) (j .laid)
+      ∙ laid-on out 0 (joinUntilEnd key (xs .now) (ys .now) .laid) (rest .now) n (omega (arith, j .all)) (omega arith)
+      ∙ ap (laidAt out 0) (joins-whole j)
 
   pub joins-agree : {xs ys rest₁ rest₂ : RefT (List ℕ)} {out out₁ out₂ : List ℕ} → Joins key xs ys out out₁ rest₁ → Joins key xs ys out out₂ rest₂ → (out₁ ≡ out₂) × (rest₁ .now ≡ rest₂ .now) × (rest₁ .ptr ≡ rest₂ .ptr)
   joins-agree j k =
