@@ -3,3 +3,4 @@ pub mod TurnLaws
 pub mod SubtreeLaws
 pub mod AppendLaws
 pub mod MoveLaws
+pub mod BoundLaws

@@ -19,7 +19,7 @@ use Rattle.rules.proofs.Weight.{fill-held}
 use Rattle.rules.proofs.Frame.{Frame, frame-put, fill-frame, view-apart, view-set}
 use Rattle.rules.proofs.Contents.{Below, Contents, below, view}
 use Rattle.rules.proofs.Lens.{CanHold, can-hold, can-hold-rest, view-put}
-use Rattle.rules.proofs.Steps.{Stepped, stops, first, second, stepped}
+use Rattle.rules.proofs.Steps.{Stepped, stops, from-first, from-second, stepped}
 use Rattle.runs.specs.Until.{untilEmpty}
 use Rattle.runs.proofs.MergeLaws.{andThen, reached, merged-suc}
 use Rattle.mergers.specs.Moves.{runLength}
@@ -140,8 +140,8 @@ Shorter xs ys (move e xs′ ys′) = (length xs′ ≤ length xs) × (length ys�
 
 shorter : (key : ℕ → ℕ) {xs ys : List ℕ} {s : Step} → Stepped key xs ys s → Shorter xs ys s
 shorter key stops = tt
-shorter key (first low) = omega arith
-shorter key (second low) = omega arith
+shorter key (from-first low) = omega arith
+shorter key (from-second low) = omega arith
 
 -- an input can hold what a step leaves of it
 abbrev Holds : Tree → Tree → Step → Type 0
@@ -150,8 +150,8 @@ Holds one two (move e xs′ ys′) = CanHold one xs′ × CanHold two ys′
 
 holds : (key : ℕ → ℕ) (one two : Tree) (bs : Buffers) {xs ys : List ℕ} → entries one bs ≡ xs → entries two bs ≡ ys → {s : Step} → Stepped key xs ys s → Holds one two s
 holds key one two bs p q stops = tt
-holds key one two bs p q (first low) = (can-hold-rest one bs p, can-hold two bs q)
-holds key one two bs p q (second low) = (can-hold one bs p, can-hold-rest two bs q)
+holds key one two bs p q (from-first low) = (can-hold-rest one bs p, can-hold two bs q)
+holds key one two bs p q (from-second low) = (can-hold one bs p, can-hold-rest two bs q)
 
 -- ---- the output and the two inputs stored anew
 

@@ -1,18 +1,22 @@
 -- What feeds link i's buffer j, and what stands at the top of the tree below it.
-use Prim.Native.Nat.{ℕ, zero, suc, _+_, _-_, _*_, _≤_, _<_}
+use Prim.Native.Nat.{ℕ, zero, suc, _+_, _-_, _*_, _/_, _≤_, _<_}
 use mathlib.Core.Path.{_≡_, refl, sym, ap, _∙_}
 use mathlib.Core.Logic.{_⊎_, inl, inr}
 use mathlib.Core.Bool.{Bool, true, false}
 use mathlib.Core.List.{List, [], _∷_, _++_}
 use native.Mathlib.Omega.{arith}
 use native.Mathlib.Nat.{add-zero}
-use native.Mathlib.Decide.{decLt}
+use native.Mathlib.Decide.{ℕ-discrete}
 use lib.Dec.{T, leb, eqb, leb→le, eqb→eq}
 use lib.ListN.{length, getD, set, drop, drop-of-length-le, List·getD-append}
 use lib.Seq.{drop-cons}
 use Rattle.rules.specs.Tests.{_and_, every}
 use Rattle.rules.specs.Links.{s, k, levels, first, depthOf, capacity, start, offset, bufferCount, words, LinkNumber, InLink}
 use Rattle.rules.specs.Tree.{Buffers, Tree, exhausted, buffer, merger, entries, put, perfect, kMerger, linksFrom}
+use Rattle.rules.proofs.Numbers.{Among, among-first, among-second}
+use Rattle.rules.proofs.Full.{Roomy, over}
+use Rattle.rules.proofs.Sizes.{first-further}
+use Rattle.rules.proofs.Numbering.{links-among, links-roomy}
 use Rattle.rules.proofs.Table.{and-one, and-two, every-at, each-link, k-least, first-most, first-at, words-at, in-link}
 use Rattle.buffers.specs.Slots.{base}
 use Rattle.buffers.proofs.SlotLaws.{base-is, in-words}
@@ -163,3 +167,49 @@ second-spot {i} {j} h = go j (h .above)
     go : (j : ℕ) → j < k i → Spot (secondLink i j) (secondInput j)
     go zero above = next
     go (suc j) above = spot (in-link (h .inside .link) (omega arith))
+
+first-up : (i j : ℕ) → 0 < i → i ≤ j → first i ≤ first j
+first-up i j some h = let e : i + (j - i) ≡ j = omega arith in rw e at (first-further i (j - i) some)
+
+roomy-inputs : {n c : ℕ} {one two : Tree} → Roomy (merger n c one two) → Roomy one × Roomy two
+roomy-inputs (over some p q) = (p, q)
+
+-- ---- what holds of a tree and is handed down to its inputs holds of every part of it
+
+module _ (P : Tree → Type 0) (down : (n c : ℕ) (one two : Tree) → P (merger n c one two) → P one × P two) (last : ℕ) {i : ℕ} (h : LinkNumber i) (low : i ≤ last) (top : P (subtree last i 0)) where
+  inputs-of : (parent : ℕ) → parent < k i → P (subtree last i parent) → P (subtree last i (firstInput parent)) × P (subtree last (secondLink i parent) (secondInput parent))
+  inputs-of parent above p = down (first i + parent) (capacity i parent) (subtree last i (firstInput parent)) (subtree last (secondLink i parent) (secondInput parent)) (rw (fed-by-two last h low parent above) at p)
+
+  -- j is the first or the second input of the merger with output j / 2
+  from-parent : (j parent : ℕ) → 0 < j → parent ≡ j / 2 → j < 2 * k i → P (subtree last i parent) → P (subtree last i j)
+  from-parent j zero some e below p = let one : j ≡ 1 = omega arith in rw one (inputs-of 0 (omega (arith, k-least h)) p .0)
+  from-parent j (suc parent) some e below p = go (ℕ-discrete j (2 * suc parent)) (inputs-of (suc parent) (omega arith) p)
+    where
+      go : Dec (j ≡ 2 * suc parent) → P (subtree last i (2 * suc parent)) × P (subtree last i (2 * suc parent + 1)) → P (subtree last i j)
+      go (yes q) both = rw q (both .0)
+      go (no q) both = let r : j ≡ 2 * suc parent + 1 = omega arith in rw r (both .1)
+
+  one-down : (depth : ℕ) → ((j : ℕ) → j ≤ depth → j < 2 * k i → P (subtree last i j)) → (j : ℕ) → j ≤ suc depth → j < 2 * k i → P (subtree last i j)
+  one-down depth above zero within below = top
+  one-down depth above (suc j) within below = from-parent (suc j) (suc j / 2) (omega arith) refl below (above (suc j / 2) (omega arith) (omega arith))
+
+  hand-down : (depth j : ℕ) → j ≤ depth → j < 2 * k i → P (subtree last i j)
+  hand-down zero j within below = let e : j ≡ 0 = omega arith in rw e top
+  hand-down (suc depth) j within below = one-down depth (hand-down depth) j within below
+
+  pub everywhere : {j : ℕ} → InLink i j → P (subtree last i j)
+  everywhere {j} inside = hand-down j j (omega arith) (inside .below)
+
+-- the numbers of every part are different and below the number of buffers, and its mergers' outputs have room
+pub part-among : (last links : ℕ) {i j : ℕ} → InLink i j → i ≤ last → last ≤ links → Among (subtree last i j) (bufferCount links)
+unfolding subtree bufferCount
+part-among last links {i} {j} inside low high =
+    let n = suc last - i in
+    let e : i + n ≡ suc last = omega arith in
+    let f : last + (links - last) ≡ links = omega arith in
+    let most : first (i + n) ≤ first (suc links) = rw e (first-up (suc last) (suc links) (omega arith) (omega arith)) in
+    everywhere (λ t. Among t (first (suc links))) (λ n c one two a. (among-first a, among-second a)) last (inside .link) low (links-among i n (first (suc links)) (inside .link .low) most) inside
+
+pub part-roomy : (last : ℕ) {i j : ℕ} → InLink i j → i ≤ last → Roomy (subtree last i j)
+unfolding subtree
+part-roomy last {i} {j} inside low = everywhere Roomy (λ n c one two r. roomy-inputs r) last (inside .link) low (links-roomy i (suc last - i) (inside .link .low)) inside

@@ -1,3 +1,4 @@
 pub mod Moves
 pub mod Subtree
 pub mod Post
+pub mod Fills

@@ -178,7 +178,15 @@ pub fn wants_in(a: &[u64], last: usize, i: usize, n: usize) -> bool
 }
 
 // Merge steps of one turn; the second input is in link i, where links behind `last` count as exhausted.
-pub fn turn_steps(a: &mut [u64], last: usize, i: usize, out: Place, room: usize, one: Place, two: Place) -> usize
+pub fn turn_steps(
+    a: &mut [u64],
+    last: usize,
+    i: usize,
+    out: Place,
+    room: usize,
+    one: Place,
+    two: Place,
+) -> usize
     requires { ⌜ Turning (now a) last i (out .number) (out .at) room (one .number) (one .at) (two .number) (two .at) ⌝ }
     ensures { λ r. ⌜ r ≡ runLength wholeWord room (bufferOf (now (a .entry)) (one .number)) (seenIf (leb i last) (bufferOf (now (a .entry)) (two .number))) ⌝ }
     ensures { λ r. ⌜ Ran (now (a .entry)) (now (a .exit)) (out .number) (one .number) (two .number) (turnedBy (leb i last) r (now (a .entry)) (out .number) (one .number) (two .number)) ⌝ }

@@ -8,7 +8,7 @@ use Rattle.rules.specs.Tree.{Buffers, Tree, exhausted, buffer, merger, e
 use Rattle.rules.specs.Merge.{Step, stop, move, mergeStep}
 use Rattle.rules.specs.Fill.{Filled, untouched, ifEmpty, stepAnd, fillRoom, fill}
 use Rattle.rules.specs.Take.{heldIn}
-use Rattle.rules.proofs.Steps.{Stepped, stops, first, second, stepped}
+use Rattle.rules.proofs.Steps.{Stepped, stops, from-first, from-second, stepped}
 use Rattle.rules.proofs.Numbers.{Among}
 use Rattle.rules.proofs.Contents.{Below, Contents, below, view, Refilled, Run, moreSteps, refill, stepThen, mergeInto, fillContents}
 use Rattle.rules.proofs.Lens.{fill-seen}
@@ -65,8 +65,8 @@ module _ (key : ℕ → ℕ) {A B : Type 0} (ha : A → ℕ) (hb : B → ℕ) wh
         → FullOrDone (length out + suc room) (stepThen rest out steps a b s)
     unfolding stepThen
     step-fills out steps a b stops da db = record { at-most = omega arith; done = λ q. omega (arith, da refl, db refl) }
-    step-fills out steps a b (first {e = e} {xs = xs} {ys = ys} l) da db = move-fills out steps e (xs, a) (ys, b)
-    step-fills out steps a b (second {e = e} {xs = xs} {ys = ys} l) da db = move-fills out steps e (xs, a) (ys, b)
+    step-fills out steps a b (from-first {e = e} {xs = xs} {ys = ys} l) da db = move-fills out steps e (xs, a) (ys, b)
+    step-fills out steps a b (from-second {e = e} {xs = xs} {ys = ys} l) da db = move-fills out steps e (xs, a) (ys, b)
 
   run-fills : (f : List ℕ × A → Refilled A) → Drains ha f → (g : List ℕ × B → Refilled B) → Drains hb g → (room : ℕ) → RunFills room (mergeInto key f g room)
   unfolding mergeInto
@@ -184,8 +184,8 @@ module _ (key : ℕ → ℕ) {A B : Type 0} (G : List ℕ × A → Type 0) (H : 
       → G (xs, a) → H (ys, b) → Keeps (stepThen rest out steps a b s)
   unfolding stepThen
   step-keeps rest h out steps a b stops g i = record { one = g; two = i }
-  step-keeps rest h out steps a b (first {e = e} {xs = xs} {ys = ys} l) g i = more-keeps (suc steps) (h (out ++ e ∷ []) (xs, a) (ys, b) (pg e xs a g) i)
-  step-keeps rest h out steps a b (second {e = e} {xs = xs} {ys = ys} l) g i = more-keeps (suc steps) (h (out ++ e ∷ []) (xs, a) (ys, b) g (ph e ys b i))
+  step-keeps rest h out steps a b (from-first {e = e} {xs = xs} {ys = ys} l) g i = more-keeps (suc steps) (h (out ++ e ∷ []) (xs, a) (ys, b) (pg e xs a g) i)
+  step-keeps rest h out steps a b (from-second {e = e} {xs = xs} {ys = ys} l) g i = more-keeps (suc steps) (h (out ++ e ∷ []) (xs, a) (ys, b) g (ph e ys b i))
 
   pub run-keeps : (f : List ℕ × A → Refilled A) → Fills G f → (g : List ℕ × B → Refilled B) → Fills H g → (room : ℕ) → RunKeeps (mergeInto key f g room)
   unfolding mergeInto
@@ -204,22 +204,22 @@ Fits exhausted bs = Unit {0}
 Fits (buffer n c) bs = length (getD bs n []) ≤ c
 Fits (merger n c one two) bs = (length (getD bs n []) ≤ c) × Fits one bs × Fits two bs
 
-abbrev FitsBelow : (t : Tree) → Below t → Type 0
+abbrev pub FitsBelow : (t : Tree) → Below t → Type 0
 FitsBelow exhausted b = Unit {0}
 FitsBelow (buffer n c) b = Unit {0}
 FitsBelow (merger n c one two) b =
     ((length (b .0 .0) ≤ topCapacity one) × FitsBelow one (b .0 .1)) × ((length (b .1 .0) ≤ topCapacity two) × FitsBelow two (b .1 .1))
 
-abbrev FitsIn : (t : Tree) → Contents t → Type 0
+abbrev pub FitsIn : (t : Tree) → Contents t → Type 0
 FitsIn t z = (length (z .0) ≤ topCapacity t) × FitsBelow t (z .1)
 
-fits-seen : (t : Tree) (bs : Buffers) → Fits t bs → FitsIn t (view t bs)
+pub fits-seen : (t : Tree) (bs : Buffers) → Fits t bs → FitsIn t (view t bs)
 unfolding entries below
 fits-seen exhausted bs h = (omega arith, tt)
 fits-seen (buffer n c) bs h = (h, tt)
 fits-seen (merger n c one two) bs h = (h .0, (fits-seen one bs (h .1), fits-seen two bs (h .2)))
 
-seen-fits : (t : Tree) (bs : Buffers) → FitsIn t (view t bs) → Fits t bs
+pub seen-fits : (t : Tree) (bs : Buffers) → FitsIn t (view t bs) → Fits t bs
 unfolding entries below
 seen-fits exhausted bs h = tt
 seen-fits (buffer n c) bs h = h .0
@@ -228,7 +228,7 @@ seen-fits (merger n c one two) bs h = (h .0, seen-fits one bs (h .1 .0), seen-fi
 fits-pop : (t : Tree) → Pops (FitsIn t)
 fits-pop t e es b g = (omega (arith, g .0), g .1)
 
-fits-fill : (key : ℕ → ℕ) {t : Tree} → Roomy t → Fills (FitsIn t) (fillContents key t)
+pub fits-fill : (key : ℕ → ℕ) {t : Tree} → Roomy t → Fills (FitsIn t) (fillContents key t)
 unfolding fillContents
 fits-fill key nothing z g = g
 fits-fill key alone z g = g

@@ -8,7 +8,7 @@ use lib.Seq.{getD-set-same, getD-set-other}
 use Rattle.rules.specs.Tree.{Buffers, Tree, exhausted, buffer, merger, entries, put}
 use Rattle.rules.specs.Merge.{Step, stop, move, mergeStep}
 use Rattle.rules.specs.Fill.{Filled, untouched, ifEmpty, moveUp, stepAnd, fillRoom, fill}
-use Rattle.rules.proofs.Steps.{Stepped, stops, first, second, stepped}
+use Rattle.rules.proofs.Steps.{Stepped, stops, from-first, from-second, stepped}
 use Rattle.rules.proofs.Numbers.{Stands, itself, output, in-first, in-second, apart-back, Joint, Among, joint, among-first, among-second}
 use Rattle.rules.proofs.Contents.{Below, Contents, below, view, Refilled, Run, moreSteps, refill, stepThen, mergeInto, fillContents}
 use Rattle.rules.proofs.Frame.{Frame, frame-put, Framed, ifEmpty-frame, fill-frame, view-apart, view-set}
@@ -89,14 +89,14 @@ module _ (key : ℕ → ℕ) (n c : ℕ) (one two : Tree) (count : ℕ) (among :
         → seen (stepAnd rest n one two steps s bs) ≡ stepThen rest′ (getD bs n []) steps (below one bs) (below two bs) s
     unfolding stepAnd stepThen
     step-seen steps bs many p q stops = rw (p, q)
-    step-seen steps bs many p q (first {e} {xs} {ys} low) = move-seen steps bs many e xs ys (can-hold-rest one bs p) (can-hold two bs q)
-    step-seen steps bs many p q (second {e} {xs} {ys} low) = move-seen steps bs many e xs ys (can-hold one bs p) (can-hold-rest two bs q)
+    step-seen steps bs many p q (from-first {e} {xs} {ys} low) = move-seen steps bs many e xs ys (can-hold-rest one bs p) (can-hold two bs q)
+    step-seen steps bs many p q (from-second {e} {xs} {ys} low) = move-seen steps bs many e xs ys (can-hold one bs p) (can-hold-rest two bs q)
 
 -- a fill of an input, seen from the input
 abbrev pub ShowsFill : (t : Tree) → ℕ → (Buffers → Filled) → (Contents t → Refilled (Below t)) → Type 0
 ShowsFill t count f g = (bs : Buffers) → length bs ≡ count → _≡_ {A = Refilled (Below t)} (record { contents = view t (f bs .buffers); steps = f bs .steps }) (g (view t bs))
 
-refill-seen : (t : Tree) (count : ℕ) (f : Buffers → Filled) (g : Contents t → Refilled (Below t)) → ShowsFill t count f g
+pub refill-seen : (t : Tree) (count : ℕ) (f : Buffers → Filled) (g : Contents t → Refilled (Below t)) → ShowsFill t count f g
     → (bs : Buffers) → length bs ≡ count → (es : List ℕ) → entries t bs ≡ es
     → _≡_ {A = Refilled (Below t)} (record { contents = view t (ifEmpty f es bs .buffers); steps = ifEmpty f es bs .steps }) (refill g es (below t bs))
 unfolding ifEmpty refill

@@ -17,11 +17,11 @@ abbrev pub doubled : ℕ → ℕ → ℕ
 doubled zero n = n
 doubled (suc d) n = doubled d (2 * n)
 
-doubled-mono : (d a b : ℕ) → a ≤ b → doubled d a ≤ doubled d b
+pub doubled-mono : (d a b : ℕ) → a ≤ b → doubled d a ≤ doubled d b
 doubled-mono zero a b h = h
 doubled-mono (suc d) a b h = doubled-mono d (2 * a) (2 * b) (omega arith)
 
-doubled-grows : (d a : ℕ) → a ≤ doubled d a
+pub doubled-grows : (d a : ℕ) → a ≤ doubled d a
 doubled-grows zero a = omega arith
 doubled-grows (suc d) a = omega (arith, doubled-grows d (2 * a))
 
@@ -129,7 +129,7 @@ module _ (a size : ℕ) where
       (λ q. in-first (perfect-stands cs (2 * j) depth y (omega arith) l q))
 
 -- every number from 1 on has its level
-level-of : (h y : ℕ) → 0 < y → y < 2 * 2 ^ h → Under 1 h y
+pub level-of : (h y : ℕ) → 0 < y → y < 2 * 2 ^ h → Under 1 h y
 level-of zero y some less = record { depth = 0; deep = omega arith; low = omega arith; high = omega arith }
 level-of (suc h) y some less =
     by-leb (2 * 2 ^ h) y (λ b. Under 1 (suc h) y)
@@ -210,3 +210,40 @@ links-roomy i (suc n) link = full.over (a-some i) (kMerger-roomy i link) (links-
 
 pub links-among : (i n count : ℕ) → 0 < i → first (i + n) ≤ count → Among (linksFrom i n) count
 links-among i n count link h = record { distinct = links-distinct i n link; less = λ m st. omega (arith, links-range i n link st .1) }
+
+-- ---- the tree of a queue
+
+module _ (links : ℕ) where
+  pub count-is : bufferCount links ≡ first (1 + links)
+  unfolding bufferCount
+  count-is = let e : 1 + links ≡ suc links = omega arith in rw e
+
+  -- I is number 0, and the tree's numbers are all the others
+  pub tree-range : {m : ℕ} → Stands m (treeOf links) → (0 < m) × (m < bufferCount links)
+  unfolding treeOf
+  tree-range st =
+      let r = links-range 1 links (omega arith) st in
+      (omega (arith, r .0, first-some 1 (omega arith)), omega (arith, r .1, count-is))
+
+  pub tree-stands : {m : ℕ} → 0 < m → m < bufferCount links → Stands m (treeOf links)
+  unfolding treeOf first
+  tree-stands low high = links-stand 1 links (omega arith) low (omega (arith, count-is))
+
+  pub insertion-outside : Outside 0 (treeOf links)
+  insertion-outside st = omega (arith, tree-range st .0)
+
+  pub tree-among : {count : ℕ} → bufferCount links ≤ count → Among (treeOf links) count
+  unfolding treeOf
+  tree-among {count} h = links-among 1 links count (omega arith) (omega (arith, count-is))
+
+  pub tree-roomy : full.Roomy (treeOf links)
+  unfolding treeOf
+  tree-roomy = links-roomy 1 links (omega arith)
+
+  -- every S(i,j) stands in it
+  pub s-stands : (i j : ℕ) → 1 ≤ i → i ≤ links → 1 ≤ j → j ≤ k i → Stands (numberOfS i j) (treeOf links)
+  unfolding numberOfS
+  s-stands i j low high some most =
+      let e : suc i + (links - i) ≡ 1 + links = omega arith in
+      let further : first (suc i) ≤ first (1 + links) = rw e at (first-further (suc i) (links - i) (omega arith)) in
+      tree-stands (omega (arith, first-some i low)) (omega (arith, first-next i low, count-is))

@@ -13,7 +13,7 @@ use Rattle.rules.specs.Fill.{Filled, fill}
 use Rattle.rules.specs.Order.{ascends, lastKey, ordered}
 use Rattle.rules.proofs.Table.{and-one, and-two}
 use Rattle.rules.proofs.Tests.{and-both}
-use Rattle.rules.proofs.Steps.{NotAbove, Stepped, stops, first, second, stepped}
+use Rattle.rules.proofs.Steps.{NotAbove, Stepped, stops, from-first, from-second, stepped}
 use Rattle.rules.proofs.Numbers.{Among}
 use Rattle.rules.proofs.Contents.{Below, Contents, below, view, Refilled, Run, moreSteps, refill, stepThen, mergeInto, fillContents}
 use Rattle.rules.proofs.Lens.{fill-seen}
@@ -87,6 +87,23 @@ module _ (key : ℕ → ℕ) where
       and-both (ascends key low es) (ordered key one last bs and ordered key two last bs) (says-ascends low es (h .0))
       (and-both (ordered key one last bs) (ordered key two last bs) (says-ordered one last bs (h .1 .0)) (says-ordered two last bs (h .1 .1)))
 
+  pub lastKey-from : {low low′ : ℕ} → low′ ≤ low → (es : List ℕ) → lastKey key low′ es ≤ lastKey key low es
+  unfolding lastKey
+  lastKey-from l [] = l
+  lastKey-from l (e ∷ es) = omega arith
+
+  below-from : (t : Tree) {low low′ : ℕ} → low′ ≤ low → (b : Below t) → OrderedBelow t low b → OrderedBelow t low′ b
+  below-from exhausted l b h = tt
+  below-from (buffer n c) l b h = tt
+  below-from (merger n c one two) l b h = (
+    (ascends-from l (b .0 .0) (h .0 .0), below-from one (lastKey-from l (b .0 .0)) (b .0 .1) (h .0 .1)),
+    (ascends-from l (b .1 .0) (h .1 .0), below-from two (lastKey-from l (b .1 .0)) (b .1 .1) (h .1 .1)),
+  )
+
+  -- what is in order from a key on is so from any smaller key on
+  pub ordered-from : (t : Tree) {low low′ : ℕ} → low′ ≤ low → (z : Contents t) → Ordered t low z → Ordered t low′ z
+  ordered-from t l z h = (ascends-from l (z .0) (h .0), below-from t (lastKey-from l (z .0)) (z .1) (h .1))
+
   none-ascends : (low : ℕ) (es : List ℕ) → length es ≡ 0 → Ascends low es
   none-ascends low [] e = tt
   none-ascends low (x ∷ es) e = absurd (omega arith)
@@ -111,7 +128,7 @@ module _ (key : ℕ → ℕ) where
 
   module _ {A : Type 0} (P : ℕ → A → Type 0) (ha : A → ℕ) (free : (low : ℕ) (a : A) → ha a ≡ 0 → P low a) where
     -- what no head is smaller than may stand before it
-    raise : (e low : ℕ) (xs : List ℕ) (a : A) → NotAbove key e xs → (length xs ≡ 0 → ha a ≡ 0) → From P low (xs, a) → From P (key e) (xs, a)
+    pub raise : (e low : ℕ) (xs : List ℕ) (a : A) → NotAbove key e xs → (length xs ≡ 0 → ha a ≡ 0) → From P low (xs, a) → From P (key e) (xs, a)
     unfolding lastKey
     raise e low [] a l d h = (tt, free (key e) a (d refl))
     raise e low (x ∷ xs) a l d h = ((l, h .0 .1), h .1)
@@ -138,9 +155,9 @@ module _ (key : ℕ → ℕ) where
           → Ascends low out → From P (lastKey key low out) (xs, a) → From Q (lastKey key low out) (ys, b) → InOrder (stepThen rest out steps a b s)
       unfolding stepThen lastKey
       step-ordered out steps a b stops da db asc p q = record { out = asc; one = p; two = q }
-      step-ordered out steps a b (first {e = e} {xs = xs} {ys = ys} l) da db asc p q =
+      step-ordered out steps a b (from-first {e = e} {xs = xs} {ys = ys} l) da db asc p q =
           move-ordered out steps e (xs, a) (ys, b) asc (p .0 .0) (p .0 .1, p .1) (raise Q hb free-two e (lastKey key low out) ys b l db q)
-      step-ordered out steps a b (second {e = e} {xs = xs} {ys = ys} l) da db asc p q =
+      step-ordered out steps a b (from-second {e = e} {xs = xs} {ys = ys} l) da db asc p q =
           move-ordered out steps e (xs, a) (ys, b) asc (q .0 .0) (raise P ha free-one e (lastKey key low out) xs a l da p) (q .0 .1, q .1)
 
     run-ordered : (f : List ℕ × A → Refilled A) → Drains ha f → ((l : ℕ) → Fills (From P l) f) → (g : List ℕ × B → Refilled B) → Drains hb g → ((l : ℕ) → Fills (From Q l) g)

@@ -120,6 +120,10 @@ levels-some i h = (rw (k-power i) (cube-some (height i)), inners-some (height i)
 
 -- ---- numbers of buffers
 
+pub first-one : first 1 ≡ 1
+unfolding first
+first-one = refl
+
 pub first-next : (i : ℕ) → 0 < i → first (suc i) ≡ first i + 2 * k i
 unfolding first
 first-next zero h = absurd (omega arith)

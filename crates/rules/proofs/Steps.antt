@@ -16,18 +16,18 @@ module _ (key : ℕ → ℕ) where
   -- the step that is made at these two inputs
   pub data Stepped : List ℕ → List ℕ → Step → Type 0 where
     stops : Stepped [] [] stop
-    first : {e : ℕ} {xs ys : List ℕ} → NotAbove e ys → Stepped (e ∷ xs) ys (move e xs ys)
-    second : {e : ℕ} {xs ys : List ℕ} → NotAbove e xs → Stepped xs (e ∷ ys) (move e xs ys)
+    from-first : {e : ℕ} {xs ys : List ℕ} → NotAbove e ys → Stepped (e ∷ xs) ys (move e xs ys)
+    from-second : {e : ℕ} {xs ys : List ℕ} → NotAbove e xs → Stepped xs (e ∷ ys) (move e xs ys)
 
   by-heads : (x y : ℕ) (xs ys : List ℕ) (b : Bool) → leb (key x) (key y) ≡ b
       → Stepped (x ∷ xs) (y ∷ ys) (elim b [ true ↦ move x xs (y ∷ ys) | false ↦ move y (x ∷ xs) ys ])
-  by-heads x y xs ys true e = first (leb→le (key x) (key y) (rw e tt))
-  by-heads x y xs ys false e = let l : key y < key x = nleb→lt (key x) (key y) (rw e tt) in let low : key y ≤ key x = omega arith in second low
+  by-heads x y xs ys true e = from-first (leb→le (key x) (key y) (rw e tt))
+  by-heads x y xs ys false e = let l : key y < key x = nleb→lt (key x) (key y) (rw e tt) in let low : key y ≤ key x = omega arith in from-second low
 
   -- "One merge step moves the smaller head; at equal heads the first input's."
   pub stepped : (xs ys : List ℕ) → Stepped xs ys (mergeStep key xs ys)
   unfolding mergeStep
   stepped [] [] = stops
-  stepped (x ∷ xs) [] = first tt
-  stepped [] (y ∷ ys) = second tt
+  stepped (x ∷ xs) [] = from-first tt
+  stepped [] (y ∷ ys) = from-second tt
   stepped (x ∷ xs) (y ∷ ys) = by-heads x y xs ys (leb (key x) (key y)) refl

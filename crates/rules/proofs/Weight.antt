@@ -10,7 +10,7 @@ use Rattle.rules.specs.Tree.{Buffers, Tree, exhausted, buffer, merger, e
 use Rattle.rules.specs.Merge.{Step, stop, move, mergeStep}
 use Rattle.rules.specs.Fill.{Filled, fill}
 use Rattle.rules.specs.Take.{heldIn}
-use Rattle.rules.proofs.Steps.{Stepped, stops, first, second, stepped}
+use Rattle.rules.proofs.Steps.{Stepped, stops, from-first, from-second, stepped}
 use Rattle.rules.proofs.Numbers.{Among}
 use Rattle.rules.proofs.Contents.{Below, Contents, below, view, Refilled, Run, refill, stepThen, mergeInto, fillContents}
 use Rattle.rules.proofs.Lens.{fill-seen}
@@ -83,8 +83,8 @@ module _ (e : ℕ) {A B : Type 0} (up low : ℕ → ℕ) (falls : (x : ℕ) → 
       → {xs ys : List ℕ} {s : Step} → Stepped key xs ys s → whole (stepThen rest out steps a b s) ≡ sumOf up out + (sumOf low xs + wa a) + (sumOf low ys + wb b) + e * steps
   unfolding stepThen
   step-pays rest h key out steps a b stops = refl
-  step-pays rest h key out steps a b (first {e = x} {xs = xs} {ys = ys} l) = omega (arith, h (out ++ x ∷ []) (xs, a) (ys, b), sumOf-append up out (x ∷ []), falls x)
-  step-pays rest h key out steps a b (second {e = x} {xs = xs} {ys = ys} l) = omega (arith, h (out ++ x ∷ []) (xs, a) (ys, b), sumOf-append up out (x ∷ []), falls x)
+  step-pays rest h key out steps a b (from-first {e = x} {xs = xs} {ys = ys} l) = omega (arith, h (out ++ x ∷ []) (xs, a) (ys, b), sumOf-append up out (x ∷ []), falls x)
+  step-pays rest h key out steps a b (from-second {e = x} {xs = xs} {ys = ys} l) = omega (arith, h (out ++ x ∷ []) (xs, a) (ys, b), sumOf-append up out (x ∷ []), falls x)
 
   run-pays : (key : ℕ → ℕ) (f : List ℕ × A → Refilled A) → Pays e low wa f → (g : List ℕ × B → Refilled B) → Pays e low wb g
       → (room : ℕ) → RunPays (mergeInto key f g room)
@@ -102,7 +102,7 @@ module _ (e : ℕ) {A B : Type 0} (up low : ℕ → ℕ) (falls : (x : ℕ) → 
       )
 
 module _ (g : ℕ → ℕ → ℕ) (e : ℕ) (deeper : (d x : ℕ) → g (suc d) x ≡ g d x + e) (key : ℕ → ℕ) where
-  contents-pay : (t : Tree) (d : ℕ) → Pays e (g d) (weightBelow g t d) (fillContents key t)
+  pub contents-pay : (t : Tree) (d : ℕ) → Pays e (g d) (weightBelow g t d) (fillContents key t)
   unfolding fillContents weightBelow
   contents-pay exhausted d z = omega arith
   contents-pay (buffer n c) d z = omega arith

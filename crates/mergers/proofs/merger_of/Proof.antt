@@ -32,9 +32,19 @@ place-of-requires-3 c κs = rw (c .before .before .before .before .second-link .
 
 returns : tie.Need-returns
 returns c =
-    let h = c .before .before .before .before .before .before .before .before .pre in
-    (c .before .before .before .before .place-of .ensures, (c .before .before .capacity .ensures ∙ ap (λ i. capacity i (c .before .before .before .before .before .before .before .before .args .j)) (c .before .before .before .at .ensures), (rw (c .before .before .before .before .before .before .before .first-input .ensures) at (c .before .place-of2 .ensures), (c .before .before .before .before .before .before .before .first-input .ensures,
-    (rw (c .before .before .before .before .before .second-link .ensures, c .before .before .before .before .before .before .second-input .ensures) at (c .place-of3 .ensures), (c .before .before .before .before .before .before .second-input .ensures, c .before .before .before .before .before .second-link .ensures))))))
+    let h = c .before .before .before .before .before .before .before .before .pre in (
+      c .before .before .before .before .place-of .ensures,
+      (
+        c .before .before .capacity .ensures ∙ ap (λ i. capacity i (c .before .before .before .before .before .before .before .before .args .j)) (c .before .before .before .at .ensures),
+        (
+          rw (c .before .before .before .before .before .before .before .first-input .ensures) at (c .before .place-of2 .ensures),
+          (
+            c .before .before .before .before .before .before .before .first-input .ensures,
+            (rw (c .before .before .before .before .before .second-link .ensures, c .before .before .before .before .before .before .second-input .ensures) at (c .place-of3 .ensures), (c .before .before .before .before .before .before .second-input .ensures, c .before .before .before .before .before .second-link .ensures)),
+          ),
+        ),
+      ),
+    )
 
 pub merger-of-spec : {M : Type 1} → statement M
 merger-of-spec =
