@@ -1,10 +1,11 @@
 //! Seeded random sessions of frames. A machine of our own runs along, so that
 //! the session knows when the queue is full, empty or not set up.
 
-use crate::frames::{run_line, write_order, Order};
+use crate::frames::{run_line, run_order, write_order, Order};
 use crate::links::{array_words, most_held, MOST_LINKS};
 use crate::machine::{Machine, Outcome};
 use crate::options::Options;
+use crate::queue::Queue;
 use crate::rng::Rng;
 
 /// Where a phase leads the queue.
@@ -46,7 +47,8 @@ const ALL_ENTRIES: [Entries; 6] = [
     Entries::Any,
 ];
 
-struct Session {
+/// A session on its way, with the machine that runs along.
+pub struct Session {
     rng: Rng,
     machine: Machine,
     plain: bool,
@@ -80,7 +82,7 @@ pub fn session(options: &Options) -> Vec<u8> {
 }
 
 impl Session {
-    fn new(options: &Options) -> Session {
+    pub fn new(options: &Options) -> Session {
         Session {
             rng: Rng::new(options.seed),
             machine: Machine::zeros(options.array, options.work),
@@ -92,6 +94,19 @@ impl Session {
             left: 0,
             clock: 1000,
         }
+    }
+
+    /// The next order that is a frame, and what the machine answered.
+    pub fn step(&mut self) -> (Order, Outcome) {
+        let order = self.next_order();
+        let outcome = run_order(&mut self.machine, order);
+        self.observe(&outcome);
+        (order, outcome)
+    }
+
+    /// The queue at this moment; none before the first setup.
+    pub fn queue(&self) -> Option<&Queue> {
+        self.machine.queue.as_ref()
     }
 
     fn next_line(&mut self) -> Vec<u8> {

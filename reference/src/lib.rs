@@ -4,6 +4,7 @@
 //! a plain list of entries, and every function stands under the sentence of the
 //! document that it follows.
 
+pub mod array;
 pub mod frames;
 pub mod generate;
 pub mod links;

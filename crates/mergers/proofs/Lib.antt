@@ -4,3 +4,4 @@ pub mod SubtreeLaws
 pub mod AppendLaws
 pub mod MoveLaws
 pub mod BoundLaws
+pub mod FillLaws

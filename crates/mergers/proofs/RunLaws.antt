@@ -134,11 +134,11 @@ skips key t bs (inl some) = filled-already (fill key t) (entries t bs) bs some
 skips key t bs (inr none) = rw (none-entries t bs none) (fill-none key t bs none)
 
 -- a step leaves no more in either run
-abbrev Shorter : List ℕ → List ℕ → Step → Type 0
+abbrev pub Shorter : List ℕ → List ℕ → Step → Type 0
 Shorter xs ys stop = Unit {0}
 Shorter xs ys (move e xs′ ys′) = (length xs′ ≤ length xs) × (length ys′ ≤ length ys)
 
-shorter : (key : ℕ → ℕ) {xs ys : List ℕ} {s : Step} → Stepped key xs ys s → Shorter xs ys s
+pub shorter : (key : ℕ → ℕ) {xs ys : List ℕ} {s : Step} → Stepped key xs ys s → Shorter xs ys s
 shorter key stops = tt
 shorter key (from-first low) = omega arith
 shorter key (from-second low) = omega arith
@@ -218,7 +218,7 @@ module _ (key : ℕ → ℕ) (n c : ℕ) (one two : Tree) where
   room-step room bs p q = rw (skips key one bs p, skips key two bs q)
 
   module _ (bs : Buffers) (among : Among (merger n c one two) (length bs)) where
-    none-advanced : advanced 0 bs ≡ bs
+    pub none-advanced : advanced 0 bs ≡ bs
     unfolding advanced stored merged
     none-advanced =
         rw append-nil

@@ -19,6 +19,7 @@ use Rattle.rules.proofs.Frame.{Frame, Framed, fill-frame, ifEmpty-frame, view-a
 use Rattle.rules.proofs.Contents.{Contents, below, view}
 use Rattle.rules.proofs.Full.{held-seen, heldBelow}
 use Rattle.runs.specs.Until.{untilEmpty}
+use Rattle.runs.proofs.MergeLaws.{until-within, until-most}
 use Rattle.mergers.specs.Moves.{runLength}
 use Rattle.mergers.proofs.RunLaws.{Runs, runs-all, plus, filling, advanced, room-step, run-law}
 
@@ -108,23 +109,11 @@ module _ (key : ℕ → ℕ) (n c : ℕ) (one two : Tree) (roomy-one : Roomy one
 
 -- a run within its room; no step at all only where both inputs are empty
 module _ (key : ℕ → ℕ) where
-  until-within : (room : ℕ) (xs ys : List ℕ) → untilEmpty key room xs ys ≤ room
-  unfolding untilEmpty
-  until-within zero xs ys = omega arith
-  until-within (suc room) [] ys = omega arith
-  until-within (suc room) (x ∷ xs) [] = omega arith
-  until-within (suc room) (x ∷ xs) (y ∷ ys) = go (until-within room xs (y ∷ ys)) (until-within room (x ∷ xs) ys) (leb (key x) (key y))
-    where
-      go : untilEmpty key room xs (y ∷ ys) ≤ room → untilEmpty key room (x ∷ xs) ys ≤ room → (b : Bool)
-          → elim b [ true ↦ suc (untilEmpty key room xs (y ∷ ys)) | false ↦ suc (untilEmpty key room (x ∷ xs) ys) ] ≤ suc room
-      go p q true = omega arith
-      go p q false = omega arith
-
   pub run-within : (room : ℕ) (xs ys : List ℕ) → runLength key room xs ys ≤ room
   unfolding runLength
   run-within room [] ys = omega arith
   run-within room (x ∷ xs) [] = omega arith
-  run-within room (x ∷ xs) (y ∷ ys) = until-within room (x ∷ xs) (y ∷ ys)
+  run-within room (x ∷ xs) (y ∷ ys) = until-within key room (x ∷ xs) (y ∷ ys)
 
   until-some : (room : ℕ) (x : ℕ) (xs : List ℕ) (y : ℕ) (ys : List ℕ) → 0 < untilEmpty key (suc room) (x ∷ xs) (y ∷ ys)
   unfolding untilEmpty
@@ -160,3 +149,9 @@ module _ (key : ℕ → ℕ) where
   unfolding runLength
   run-one room [] = refl
   run-one room (x ∷ xs) = refl
+
+  pub run-most : (room : ℕ) (xs ys : List ℕ) → runLength key room xs ys ≤ length xs + length ys
+  unfolding runLength
+  run-most room [] ys = omega arith
+  run-most room (x ∷ xs) [] = omega arith
+  run-most room (x ∷ xs) (y ∷ ys) = until-most key room (x ∷ xs) (y ∷ ys)

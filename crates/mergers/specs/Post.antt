@@ -81,10 +81,14 @@ mergedBy m ws out one two =
     let z = merged wholeWord m (bufferOf ws one) (bufferOf ws two) in
     set (set (set (buffersOf ws) out (bufferOf ws out ++ z .out)) one (z .one)) two (z .two)
 
--- what a merger sees of its second input; and what merge steps then leave
+-- what a merger sees of its second input; which buffer merge steps touch beside the output and the first input; and what they then leave
 abbrev pub seenIf : Bool → List ℕ → List ℕ
 seenIf true es = es
 seenIf false es = []
+
+abbrev pub touchedIf : Bool → ℕ → ℕ → ℕ
+touchedIf true one two = two
+touchedIf false one two = one
 
 abbrev pub turnedBy : Bool → ℕ → List ℕ → ℕ → ℕ → ℕ → Buffers
 turnedBy true m ws out one two = mergedBy m ws out one two

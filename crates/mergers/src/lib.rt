@@ -10,7 +10,7 @@ ghost use Rattle.buffers.specs.Post.{Has};
 ghost use Rattle.runs.specs.Until.{untilEmpty};
 ghost use Rattle.mergers.specs.Moves.{runLength};
 ghost use Rattle.mergers.specs.Subtree.{firstInput, secondInput, secondLink};
-ghost use Rattle.mergers.specs.Post.{wanted, Spot, Placed, Moving, Fed, Merging, Turning, Ran, wantedIn, movedBy, mergedBy, seenIf, turnedBy};
+ghost use Rattle.mergers.specs.Post.{wanted, Spot, Placed, Moving, Fed, Merging, Turning, Ran, wantedIn, movedBy, mergedBy, seenIf, touchedIf, turnedBy};
 use rules::Link;
 
 // A buffer: its number, and the word at which its slots begin.
@@ -189,7 +189,7 @@ pub fn turn_steps(
 ) -> usize
     requires { ⌜ Turning (now a) last i (out .number) (out .at) room (one .number) (one .at) (two .number) (two .at) ⌝ }
     ensures { λ r. ⌜ r ≡ runLength wholeWord room (bufferOf (now (a .entry)) (one .number)) (seenIf (leb i last) (bufferOf (now (a .entry)) (two .number))) ⌝ }
-    ensures { λ r. ⌜ Ran (now (a .entry)) (now (a .exit)) (out .number) (one .number) (two .number) (turnedBy (leb i last) r (now (a .entry)) (out .number) (one .number) (two .number)) ⌝ }
+    ensures { λ r. ⌜ Ran (now (a .entry)) (now (a .exit)) (out .number) (one .number) (touchedIf (leb i last) (one .number) (two .number)) (turnedBy (leb i last) r (now (a .entry)) (out .number) (one .number) (two .number)) ⌝ }
 {
     if i <= last {
         return merge_steps(a, out, room, one, two);

@@ -27,11 +27,8 @@ same-length-2 c = search needs
 returns-2 : tie.Need-returns-2
 returns-2 c =
     let z = c .before .before .before .before .before .before in
-    let r = c .before .before .move-steps .ensures .1 in
-    rw (lt-leb _ _ (c .before .before .before .before .if1 .left)) (
-      c .before .before .move-steps .ensures .0 ∙ sym (run-one wholeWord (z .args .room) (bufferOf (z .args .a .now) (z .args .one .number))),
-      record { array = r .array; state = r .state; kept = r .kept; marks = r .marks; start = r .start; words = λ n lt a b c. r .words n lt a b b },
-    )
+    rw (lt-leb _ _ (c .before .before .before .before .if1 .left))
+    (c .before .before .move-steps .ensures .0 ∙ sym (run-one wholeWord (z .args .room) (bufferOf (z .args .a .now) (z .args .one .number))), c .before .before .move-steps .ensures .1)
 
 pub turn-steps-spec : {M : Type 1} → statement M
 turn-steps-spec =
