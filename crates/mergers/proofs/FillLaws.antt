@@ -220,14 +220,14 @@ marks-same : (t : Tree) (ws ws′ : List ℕ) → ((m : ℕ) → Stands m t → 
     → MarksRight ws t → MarksRight ws′ t
 marks-same t ws ws′ words same r = marks-less t ws ws′ (λ m s. ap markIn (words m s)) (λ m s. rw (same m s) (omega arith)) r
 
-module _ (n c : ℕ) (one two : Tree) (ws₀ : List ℕ) (array₀ : Inside ws₀) (among₀ : Among (merger n c one two) (many ws₀)) where
+module _ (n c : ℕ) (one two : Tree) (ws₀ : List ℕ) (among₀ : Among (merger n c one two) (many ws₀)) where
   below₀ : (m : ℕ) → Stands m (merger n c one two) → m < many ws₀
   below₀ m s = among₀ .less m s
 
   -- the output starts again at its first slot
-  pub begin : (ws : List ℕ) → countOf ws₀ n ≡ 0 → MarksRight ws₀ (merger n c one two) → Now ws₀ ws n (take 0 (drop (base n) ws₀)) → Word ws n 0 0 → Filling n c one two ws₀ ws 0 0
+  pub begin : Inside ws₀ → (ws : List ℕ) → countOf ws₀ n ≡ 0 → MarksRight ws₀ (merger n c one two) → Now ws₀ ws n (take 0 (drop (base n) ws₀)) → Word ws n 0 0 → Filling n c one two ws₀ ws 0 0
   unfolding fill
-  begin ws none marks z w =
+  begin array₀ ws none marks z w =
       let h = has ws₀ n array₀ (below₀ n output) in
       let empty : bufferOf ws₀ n ≡ [] = no-entries (bufferOf ws₀ n) (buffer-length ws₀ n h ∙ none) in
       let top : getD (buffersOf ws₀) n [] ≡ [] = buffers-at ws₀ n (below₀ n output) ∙ empty in
@@ -250,6 +250,19 @@ module _ (n c : ℕ) (one two : Tree) (ws₀ : List ℕ) (array₀ : Inside ws�
             let none-more : f .steps ≡ 0 + f .steps = omega arith in
             rw (top, state) (λ i. record { buffers = f .buffers; steps = none-more i });
       }
+
+  -- nothing but the output's start place and mark has changed
+  pub begin-state : Inside ws₀ → (ws : List ℕ) → countOf ws₀ n ≡ 0 → Now ws₀ ws n (take 0 (drop (base n) ws₀)) → buffersOf ws ≡ buffersOf ws₀
+  begin-state array₀ ws none z =
+      let h = has ws₀ n array₀ (below₀ n output) in
+      let top : getD (buffersOf ws₀) n [] ≡ [] = buffers-at ws₀ n (below₀ n output) ∙ no-entries (bufferOf ws₀ n) (buffer-length ws₀ n h ∙ none) in
+      z .state ∙ ap (set (buffersOf ws₀) n) (sym top) ∙ set-getD (buffersOf ws₀) n []
+
+  -- filling the first input does not touch the second
+  pub beside : {ws wsA : List ℕ} {x : ℕ} → many ws ≡ many ws₀ → Did ws wsA one (refilled wholeWord one (buffersOf ws)) x → MarksRight ws two → MarksRight wsA two
+  beside {ws} {wsA} same a marks =
+      marks-same two ws wsA (λ m s. a .others m (rw same (below₀ m (in-second s))) (λ r. joint among₀ .apart m (in-stands m one r) s))
+      (λ m s. ap (λ bs. getD bs m []) (a .state) ∙ refilled-frame wholeWord one (buffersOf ws) .same m (λ r. joint among₀ .apart m r s)) marks
 
   -- both inputs have been filled where they were empty
   module _ (roomy-one : Roomy one) (roomy-two : Roomy two) {ws wsA wsB : List ℕ} {filled steps x y : ℕ} (f : Filling n c one two ws₀ ws filled steps) (more : filled < c)

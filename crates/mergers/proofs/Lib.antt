@@ -5,3 +5,4 @@ pub mod AppendLaws
 pub mod MoveLaws
 pub mod BoundLaws
 pub mod FillLaws
+pub mod WalkLaws

@@ -5,11 +5,13 @@ ghost use lib.Dec.{leb};
 ghost use lib.ListN.{length};
 ghost use Rattle.rules.specs.Entries.{wholeWord};
 ghost use Rattle.rules.specs.Links.{capacity};
+ghost use Rattle.rules.specs.Fill.{fill};
 ghost use Rattle.buffers.specs.Format.{bufferOf, buffersOf};
 ghost use Rattle.buffers.specs.Post.{Has};
 ghost use Rattle.runs.specs.Until.{untilEmpty};
 ghost use Rattle.mergers.specs.Moves.{runLength};
-ghost use Rattle.mergers.specs.Subtree.{firstInput, secondInput, secondLink};
+ghost use Rattle.mergers.specs.Subtree.{subtree, firstInput, secondInput, secondLink};
+ghost use Rattle.mergers.specs.Fills.{CanFill, Did};
 ghost use Rattle.mergers.specs.Post.{wanted, Spot, Placed, Moving, Fed, Merging, Turning, Ran, wantedIn, movedBy, mergedBy, seenIf, touchedIf, turnedBy};
 use rules::Link;
 
@@ -195,4 +197,39 @@ pub fn turn_steps(
         return merge_steps(a, out, room, one, two);
     }
     move_steps(a, out, room, one)
+}
+
+// Fills link i's buffer j, which is empty: merge steps until it is full or nothing is left below. Links behind `last` count as exhausted. Answers the merge steps.
+pub fn fill(a: &mut [u64], last: usize, i: usize, j: usize) -> u64
+    requires { ⌜ CanFill (now a) last i j ⌝ }
+    ensures { λ r. ⌜ Did (now (a .entry)) (now (a .exit)) (subtree last i j) (fill wholeWord (subtree last i j) (buffersOf (now (a .entry)))) r ⌝ }
+{
+    if Link::at(i).k() <= j {
+        return 0;
+    }
+    let v = merger_of(i, j);
+    let n = v.out.number;
+    buffers::settle(a, n, 0);
+    let mut steps: u64 = 0;
+    let mut filled: usize = 0;
+    while filled < v.room {
+        let mut x: u64 = 0;
+        if wants_in(a, last, i, v.one.number) {
+            x = fill(a, last, i, v.first);
+        }
+        let mut y: u64 = 0;
+        if wants_in(a, last, v.link, v.two.number) {
+            y = fill(a, last, v.link, v.second);
+        }
+        let m = turn_steps(a, last, v.link, v.out, v.room - filled, v.one, v.two);
+        steps = steps + x + y + m as u64;
+        if m == 0 {
+            if filled == 0 {
+                buffers::exhaust(a, n);
+            }
+            return steps;
+        }
+        filled = filled + m;
+    }
+    steps
 }

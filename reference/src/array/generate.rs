@@ -148,8 +148,9 @@ impl Arrays {
             _ => None,
         };
         let mut orders = 1 + self.rng.size(MOST_ORDERS[links - 1]);
-        // Packings of many links are far apart; some are waited for.
-        if wanted == Some(After::Pack) && self.rng.one_in(8) {
+        // Packings and sweeps to the last link are far apart; some are waited for.
+        let rare = [Some(After::Pack), Some(After::SweepTo(links))];
+        if rare.contains(&wanted) && self.rng.one_in(3) {
             orders = 2 * most_held(links);
         }
         let session = &mut self.sessions[links - 1];
@@ -222,9 +223,12 @@ impl Arrays {
         }
     }
 
-    /// An entry to insert: mostly of a good door, often equal to another.
-    pub fn some_entry(&mut self) -> u64 {
+    /// An entry to insert: mostly of a good door, often equal to one in the array.
+    pub fn some_entry(&mut self, words: &[u64]) -> u64 {
         let good = self.rng.below(3) << 24;
+        if let (Some(slots @ [_, ..]), true) = (words.get(BOOK_WORDS..), self.rng.one_in(4)) {
+            return slots[self.rng.size(slots.len())] & !(0xFC << 24);
+        }
         match self.rng.below(12) {
             0 => self.rng.word() | 3 << 24,
             1 => self.rng.word(),
