@@ -3,6 +3,14 @@
 
 use std::env::var;
 
+/// The value of a variable that must be set.
+fn told(name: &str) -> String {
+    var(name).unwrap_or_else(|_| {
+        eprintln!("{name} is not set; the feature fake needs no library");
+        std::process::exit(1)
+    })
+}
+
 /// Cargo tells a build script each feature that is on by a variable.
 fn feature(name: &str) -> bool {
     var(format!("CARGO_FEATURE_{name}")).is_ok()
@@ -16,7 +24,6 @@ fn main() {
     if none || feature("FAKE") {
         return;
     }
-    let told = |name: &str| var(name).unwrap_or_else(|_| panic!("{name} is not set"));
     let directory = told("GORGALHUT_LIB_DIR");
     let name = told("GORGALHUT_LIB_NAME");
     println!("cargo:rustc-link-search=native={directory}");

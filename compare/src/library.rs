@@ -45,6 +45,7 @@ pub struct Got {
     pub packed: bool,
 }
 
+#[cfg(any(feature = "calls", feature = "insert"))]
 impl Got {
     /// What stands in the places of the results before a call, so that one left
     /// unwritten is seen.
@@ -126,6 +127,6 @@ fn insert(array: &mut Lent, work: &mut Lent, entry: u64, packed: bool) -> Got {
 }
 
 #[cfg(not(feature = "insert"))]
-fn insert(_array: &mut Lent, _work: &mut Lent, _entry: u64, packed: bool) -> Got {
-    Got::unwritten(packed)
+fn insert(_array: &mut Lent, _work: &mut Lent, _entry: u64, _packed: bool) -> Got {
+    unreachable!("built without the feature insert")
 }

@@ -12,7 +12,6 @@ use reference::links::{array_words, first_word, link};
 use reference::queue::{book_sound, inputs, mark_allowed, Place, Queue};
 use reference::rng::Rng;
 
-const S: usize = 1 << 17;
 const MARK: u64 = 1 << 16;
 
 fn place(link: usize, buffer: usize) -> Place {
@@ -192,11 +191,12 @@ fn arrays_of_every_length() {
     queue.buffers[1][0].clear();
     queue.buffers[0][0].clear();
     let whole = plain_array(&queue);
+    assert!(verdict(&whole));
     for length in 0..whole.len() {
         let words = &whole[..length];
         let decoded = decode(words);
         assert_eq!(link_number(words).is_some(), length > 0);
-        assert_eq!(verdict(words), length >= 256 && verdict(&whole));
+        assert_eq!(verdict(words), length >= 256);
         // S(2,4) is the last buffer, of 24 slots.
         let last = decoded.buffers.last().and_then(|buffer| buffer.entries);
         assert_eq!(last.is_some(), length >= 514);
@@ -234,94 +234,108 @@ fn link_numbers_out_of_range() {
 }
 
 /// Words and what to write into them; the rules then broken.
-type Case<'a> = (&'a [(usize, u64)], &'a [Rule]);
+type Case = (&'static [(usize, u64)], &'static [Rule]);
+
+/// A start place behind so many slots, as it stands in a buffer's word.
+const fn start(slots: u64) -> u64 {
+    slots << 17
+}
+
+/// Counts and start places; I has number 0 and word 8.
+const INSIDE: &[Case] = &[
+    (&[], &[]),
+    // I: 7 from the second slot on; 8 are inside, but one too many.
+    (&[(8, 7 + start(1))], &[]),
+    (&[(8, 7 + start(2))], &[Rule::Inside]),
+    (&[(8, 8)], &[Rule::Insertion]),
+    (&[(8, 9)], &[Rule::Inside, Rule::Insertion]),
+    // B(2), number 6, has 64 slots.
+    (&[(14, 64)], &[]),
+    (&[(14, 65)], &[Rule::Inside]),
+    (&[(14, 63 + start(1))], &[]),
+    (&[(14, 63 + start(2))], &[Rule::Inside]),
+    (&[(14, start(64))], &[]),
+    (&[(14, start(65))], &[Rule::Inside]),
+    (&[(14, start((1 << 47) - 1))], &[Rule::Inside]),
+    // Inner buffer 8 of link 2 has 8, S(2,4) has 24, A(1) has 8.
+    (&[(16, 8)], &[]),
+    (&[(16, 9)], &[Rule::Inside]),
+    (&[(20, 24)], &[]),
+    (&[(20, 25)], &[Rule::Inside]),
+    (&[(9, 8)], &[]),
+    (&[(9, 9)], &[Rule::Inside]),
+];
+
+const COUNTERS: &[Case] = &[
+    (&[(1, 1), (2, 1)], &[]),
+    (&[(1, 0)], &[Rule::Counter]),
+    (&[(1, 4)], &[Rule::Counter]),
+    (&[(2, 0)], &[Rule::Counter]),
+    (&[(2, 6)], &[Rule::Counter]),
+    (&[(2, u64::MAX)], &[Rule::Counter]),
+    (&[(1, (1 << 32) + 1)], &[Rule::Counter]),
+    // c(3) and c(4) belong to no link of this queue.
+    (&[(3, 0), (4, u64::MAX)], &[]),
+    // S(2,3) is unused where c(2) is 3, not where it is 4.
+    (&[(2, 4), (19, 1)], &[]),
+    (&[(2, 3), (19, 1)], &[Rule::Unused]),
+    (&[(2, 3), (18, 1)], &[]),
+    (&[(1, 2), (12, 1)], &[Rule::Unused]),
+    (&[(1, 2), (11, 1)], &[]),
+];
+
+const TOTALS: &[Case] = &[
+    // Link 2 with c=2: 24 below A(2), which does not count.
+    (&[(2, 2), (14, 20), (15, 4)], &[]),
+    (&[(2, 2), (14, 20), (15, 4), (13, 64)], &[]),
+    (&[(2, 2), (14, 20), (15, 5)], &[Rule::LinkTotal]),
+    (&[(2, 2), (14, 20), (17, 5)], &[Rule::LinkTotal]),
+    (&[(1, 1), (10, 1)], &[Rule::LinkTotal]),
+    (&[(1, 2), (10, 8), (11, 1)], &[Rule::LinkTotal]),
+    // H is 96.
+    (&[(13, 64), (14, 32)], &[]),
+    (&[(13, 64), (14, 32), (8, 1)], &[Rule::Held]),
+    (&[(13, 64), (14, 32), (9, 1)], &[Rule::Held]),
+];
+
+const MARKS: &[Case] = &[
+    // A mark on I asks for an empty I alone.
+    (&[(8, MARK), (9, 8)], &[]),
+    (&[(8, MARK + 1)], &[Rule::Mark]),
+    // S(2,3) lies under inner buffer 8, B(2), A(2), A(1); not under the others.
+    (
+        &[(19, 1), (8, MARK), (10, MARK), (11, MARK), (12, MARK)],
+        &[],
+    ),
+    (
+        &[(19, 1), (15, MARK), (17, MARK), (18, MARK), (20, MARK)],
+        &[],
+    ),
+    (&[(19, 1 + MARK)], &[Rule::Mark]),
+    (&[(19, 1), (16, MARK)], &[Rule::Mark]),
+    (&[(19, 1), (14, MARK)], &[Rule::Mark]),
+    (&[(19, 1), (13, MARK)], &[Rule::Mark]),
+    (&[(19, 1), (9, MARK)], &[Rule::Mark]),
+    // B(1) feeds A(1) alone, and A(1) is below nothing.
+    (&[(10, 1), (9, MARK)], &[Rule::Mark]),
+    (&[(10, 1), (13, MARK)], &[]),
+    (&[(9, 1), (10, MARK), (13, MARK)], &[]),
+    // Words that mean nothing.
+    (
+        &[(5, 1), (6, 2), (7, 3), (21, u64::MAX), (68, 1), (255, 9)],
+        &[],
+    ),
+];
 
 /// Each rule at its boundary, in an empty array of 2 links, c=(3,5).
 #[test]
 fn each_rule_at_its_boundary() {
-    let start = |slots: usize| (slots * S) as u64;
-    let cases: &[Case] = &[
-        (&[], &[]),
-        // I: 7 from the second slot on; 8 are inside, but one too many.
-        (&[(8, 7 + start(1))], &[]),
-        (&[(8, 7 + start(2))], &[Rule::Inside]),
-        (&[(8, 8)], &[Rule::Insertion]),
-        (&[(8, 9)], &[Rule::Inside, Rule::Insertion]),
-        // B(2), number 6, has 64 slots.
-        (&[(14, 64)], &[]),
-        (&[(14, 65)], &[Rule::Inside]),
-        (&[(14, 63 + start(1))], &[]),
-        (&[(14, 63 + start(2))], &[Rule::Inside]),
-        (&[(14, start(64))], &[]),
-        (&[(14, start(65))], &[Rule::Inside]),
-        (&[(14, start((1 << 47) - 1))], &[Rule::Inside]),
-        // Inner buffer 8 of link 2 has 8, S(2,4) has 24, A(1) has 8.
-        (&[(16, 8)], &[]),
-        (&[(16, 9)], &[Rule::Inside]),
-        (&[(20, 24)], &[]),
-        (&[(20, 25)], &[Rule::Inside]),
-        (&[(9, 8)], &[]),
-        (&[(9, 9)], &[Rule::Inside]),
-        // Counters.
-        (&[(1, 1), (2, 1)], &[]),
-        (&[(1, 0)], &[Rule::Counter]),
-        (&[(1, 4)], &[Rule::Counter]),
-        (&[(2, 0)], &[Rule::Counter]),
-        (&[(2, 6)], &[Rule::Counter]),
-        (&[(2, u64::MAX)], &[Rule::Counter]),
-        (&[(1, (1 << 32) + 1)], &[Rule::Counter]),
-        // c(3) and c(4) belong to no link of this queue.
-        (&[(3, 0), (4, u64::MAX)], &[]),
-        // S(2,3) is unused where c(2) is 3, not where it is 4.
-        (&[(2, 4), (19, 1)], &[]),
-        (&[(2, 3), (19, 1)], &[Rule::Unused]),
-        (&[(2, 3), (18, 1)], &[]),
-        (&[(1, 2), (12, 1)], &[Rule::Unused]),
-        (&[(1, 2), (11, 1)], &[]),
-        // Link 2 with c=2: 24 below A(2), which does not count.
-        (&[(2, 2), (14, 20), (15, 4)], &[]),
-        (&[(2, 2), (14, 20), (15, 4), (13, 64)], &[]),
-        (&[(2, 2), (14, 20), (15, 5)], &[Rule::LinkTotal]),
-        (&[(2, 2), (14, 20), (17, 5)], &[Rule::LinkTotal]),
-        (&[(1, 1), (10, 1)], &[Rule::LinkTotal]),
-        (&[(1, 2), (10, 8), (11, 1)], &[Rule::LinkTotal]),
-        // H is 96.
-        (&[(13, 64), (14, 32)], &[]),
-        (&[(13, 64), (14, 32), (8, 1)], &[Rule::Held]),
-        (&[(13, 64), (14, 32), (9, 1)], &[Rule::Held]),
-        // A mark on I asks for an empty I alone.
-        (&[(8, MARK), (9, 8)], &[]),
-        (&[(8, MARK + 1)], &[Rule::Mark]),
-        // S(2,3) lies under inner buffer 8, B(2), A(2), A(1); not under the others.
-        (
-            &[(19, 1), (8, MARK), (10, MARK), (11, MARK), (12, MARK)],
-            &[],
-        ),
-        (
-            &[(19, 1), (15, MARK), (17, MARK), (18, MARK), (20, MARK)],
-            &[],
-        ),
-        (&[(19, 1 + MARK)], &[Rule::Mark]),
-        (&[(19, 1), (16, MARK)], &[Rule::Mark]),
-        (&[(19, 1), (14, MARK)], &[Rule::Mark]),
-        (&[(19, 1), (13, MARK)], &[Rule::Mark]),
-        (&[(19, 1), (9, MARK)], &[Rule::Mark]),
-        // B(1) feeds A(1) alone, and A(1) is below nothing.
-        (&[(10, 1), (9, MARK)], &[Rule::Mark]),
-        (&[(10, 1), (13, MARK)], &[]),
-        (&[(9, 1), (10, MARK), (13, MARK)], &[]),
-        // Words that mean nothing.
-        (
-            &[(5, 1), (6, 2), (7, 3), (21, u64::MAX), (68, 1), (255, 9)],
-            &[],
-        ),
-    ];
-    for (changes, broken) in cases {
+    for (changes, broken) in [INSIDE, COUNTERS, TOTALS, MARKS].concat() {
         let mut words = open_array(2);
-        for &(at, word) in *changes {
+        for &(at, word) in changes {
             words[at] = word;
         }
-        assert_eq!(&broken_rules(&words), broken, "{changes:?}");
+        assert_eq!(broken_rules(&words), broken, "{changes:?}");
         assert_eq!(verdict(&words), broken.is_empty(), "{changes:?}");
     }
 }

@@ -59,6 +59,12 @@ pub record Emptied (ws : List ℕ) (n : ℕ) : Type 0 where
   pub of : Has ws n
   pub none : countOf ws n ≡ 0
 
+-- a buffer that has an entry, and the word at which its slots begin
+pub record Headed (ws : List ℕ) (n p : ℕ) : Type 0 where
+  pub of : Has ws n
+  pub begins : p ≡ base n
+  pub some : 0 < countOf ws n
+
 -- what becomes of buffer n's mark and start place
 pub record Word (ws : List ℕ) (n m s : ℕ) : Type 0 where
   pub mark : markOf ws n ≡ m

@@ -6,7 +6,7 @@ ghost use lib.Dec.{eqb};
 ghost use lib.ListN.{length, getD, take, drop};
 ghost use Rattle.buffers.specs.Slots.{base, capacityOf};
 ghost use Rattle.buffers.specs.Format.{countOf, startOf, markOf, wordOf, bufferOf, headOf};
-ghost use Rattle.buffers.specs.Post.{Has, Now, Dropping, Growing, Laying, Emptied, Word};
+ghost use Rattle.buffers.specs.Post.{Has, Now, Dropping, Growing, Laying, Emptied, Headed, Word};
 
 // How many entries buffer n has.
 pub fn count(a: &[u64], n: usize) -> usize
@@ -30,6 +30,15 @@ pub fn start_place(a: &[u64], n: usize) -> usize
     ensures { λ r. ⌜ r ≡ startOf (now (a .entry)) n ⌝ }
 {
     (a[8 + n] / 131072) as usize
+}
+
+// The first entry of buffer n, whose slots begin at word `at`.
+pub fn head(a: &[u64], n: usize, at: usize) -> u64
+    requires { ⌜ Headed (now a) n at ⌝ }
+    ensures { λ r. ⌜ r ≡ getD (bufferOf (now (a .entry)) n) 0 0 ⌝ }
+{
+    let p = at + start_place(a, n);
+    a[p]
 }
 
 // The first m entries of buffer n leave it.

@@ -48,7 +48,7 @@ part-top last {i} {j} h low = go (decLt j (k i))
     go (no beyond) = rw (fed-by-none last h (omega arith)) refl
 
 -- a wanted input is empty
-wanted-none : (ws : List ℕ) (n : ℕ) → wanted ws n ≡ true → countOf ws n ≡ 0
+pub wanted-none : (ws : List ℕ) (n : ℕ) → wanted ws n ≡ true → countOf ws n ≡ 0
 wanted-none ws n w = go (ℕ-discrete (countOf ws n) 0)
   where
     go : Dec (countOf ws n ≡ 0) → countOf ws n ≡ 0
@@ -59,11 +59,11 @@ wanted-none ws n w = go (ℕ-discrete (countOf ws n) 0)
         let z : _≡_ {A = ℕ} 0 1 = cc in
         absurd (omega arith)
 
-and-first : (a b : Bool) → a and b ≡ true → a ≡ true
+pub and-first : (a b : Bool) → a and b ≡ true → a ≡ true
 and-first true b e = refl
 and-first false b e = e
 
-and-second : (a b : Bool) → a and b ≡ true → b ≡ true
+pub and-second : (a b : Bool) → a and b ≡ true → b ≡ true
 and-second true b e = e
 and-second false b e = let z : _≡_ {A = ℕ} 0 1 = cc in absurd (omega arith)
 

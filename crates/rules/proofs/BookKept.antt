@@ -1,27 +1,25 @@
 -- Setup, take and look leave a queue that keeps the book rules.
 use Prim.Native.Nat.{ℕ, zero, suc, _+_, _-_, _*_, _≤_, _<_}
 use mathlib.Core.Path.{_≡_, refl, sym, ap, _∙_, subst}
-use mathlib.Core.List.{List, [], _∷_, _++_}
+use mathlib.Core.List.{List, [], _∷_}
 use native.Mathlib.Omega.{arith}
-use lib.ListN.{length, getD, replicate, length-replicate, getD-replicate}
-use lib.Dec.{T, leb, leb→le}
-use Rattle.rules.specs.Links.{s, k, height, levels, capacity, first, numberOfS, bufferCount, most, mostLinks}
+use lib.ListN.{length, getD, length-replicate, getD-replicate}
+use lib.Dec.{T}
+use Rattle.rules.specs.Links.{s, k, height, levels, first, numberOfS, bufferCount}
 use Rattle.rules.specs.Tests.{_and_}
 use Rattle.rules.specs.Tree.{Buffers, Tree, exhausted, buffer, merger, entries, perfect, kMerger, linksFrom, treeOf}
-use Rattle.rules.specs.Merge.{Step, stop, move, mergeStep}
-use Rattle.rules.specs.Fill.{Filled, untouched, fill}
-use Rattle.rules.specs.Take.{Taken, insertion, heldIn, ready, takeOne}
+use Rattle.rules.specs.Merge.{Step}
+use Rattle.rules.specs.Fill.{untouched}
+use Rattle.rules.specs.Take.{insertion, heldIn, ready, takeOne}
 use Rattle.rules.specs.Queue.{Queue, keyOf, counter, fresh}
 use Rattle.rules.specs.Book.{isLinkNumber}
 use Rattle.rules.specs.Calls.{withBuffers}
-use Rattle.rules.proofs.Table.{and-one}
 use Rattle.rules.proofs.Steps.{Stepped, stops, from-first, from-second, stepped}
 use Rattle.rules.proofs.Numbers.{Stands, itself, output, in-first, in-second}
-use Rattle.rules.proofs.Contents.{Below, Contents, below, view, Refilled, refill, fillContents}
-use Rattle.rules.proofs.Weight.{fill-held}
-use Rattle.rules.proofs.Full.{Roomy, Fits, FitsIn, fits-seen, seen-fits, fits-fill, fill-fits, refill-keeps, topCapacity, no-entries}
-use Rattle.rules.proofs.Takes.{take-frame, ready-frame, Took, handContents, takeContents, Beside, seen, take-seen, ready-cases, ready-insertion}
-use Rattle.rules.proofs.TakeLaws.{heldAll, take-held}
+use Rattle.rules.proofs.Contents.{Below, Contents, below, view, refill, fillContents}
+use Rattle.rules.proofs.Full.{Roomy, Fits, FitsIn, fits-seen, seen-fits, fits-fill, fill-fits, refill-keeps, no-entries}
+use Rattle.rules.proofs.Takes.{take-frame, ready-frame, Took, handContents, takeContents, Beside, take-seen, ready-cases, ready-insertion}
+use Rattle.rules.proofs.TakeLaws.{heldAll, ready-held, take-held}
 use Rattle.rules.proofs.Inputs.{Input, the-first, the-second, within-first, within-second, ready-fewer, take-fewer}
 use Rattle.rules.proofs.Sizes.{by-leb, k-power, k-some, length-levels, first-some}
 use Rattle.rules.proofs.Numbering.{doubled, doubled-power, tree-among, tree-roomy, insertion-outside}
@@ -34,6 +32,7 @@ pub record Shaped (q : Queue) : Type 0 where
   pub counters : length (q .counters) ≡ q .links
   pub buffers : length (q .buffers) ≡ bufferCount (q .links)
 
+-- the tree of a queue stands beside I, each number once
 pub beside-tree : (links : ℕ) (bs : Buffers) → bufferCount links ≤ length bs → Beside (treeOf links) (length bs)
 unfolding bufferCount
 beside-tree links bs many = record { among = tree-among links many; outside = insertion-outside links; some = omega (arith, first-some (suc links) (omega arith)) }
@@ -78,21 +77,19 @@ module _ (key : ℕ → ℕ) {t : Tree} (roomy : Roomy t) (bs : Buffers) (b : Be
       rw (ap (λ (r : Took (Below t)). length (r .insertion)) (take-seen key t (length bs) b bs refl))
       (hand-less (stepped key (now .contents .0) (insertion bs)) (now .contents .1) (now .steps))
 
+  -- a take makes nothing more
   pub take-shrinks : Shrinks t bs (takeOne key t bs .buffers)
-  take-shrinks = record { fewer = take-insertion; within = take-within; inputs = λ s. take-fewer key s bs b; all = omega (arith, take-held key roomy bs b) }
-
-  ready-held : heldIn t (ready key t bs .buffers) ≡ heldIn t bs
-  unfolding untouched
-  ready-held = ready-cases key t bs (λ z. heldIn t (z .buffers) ≡ heldIn t bs) refl (fill-held key t bs (b .among))
+  take-shrinks = record { fewer = take-insertion; within = take-within; inputs = λ s. take-fewer key s bs b; all = omega (arith, take-held key t bs b) }
 
   ready-within : Fits t bs → Fits t (ready key t bs .buffers)
   unfolding untouched
   ready-within h = ready-cases key t bs (λ z. Fits t (z .buffers)) h (fill-fits key roomy bs (b .among) h)
 
+  -- nor does a look
   pub ready-shrinks : Shrinks t bs (ready key t bs .buffers)
   ready-shrinks =
       let i = ap length (ready-insertion key t (length bs) b bs refl) in
-      record { fewer = omega arith; within = ready-within; inputs = λ s. ready-fewer key s bs (b .among); all = omega (arith, ready-held) }
+      record { fewer = omega arith; within = ready-within; inputs = λ s. ready-fewer key s bs (b .among); all = omega (arith, ready-held key t bs b) }
 
 -- ---- the links' parts as inputs
 
@@ -129,10 +126,12 @@ kMerger-within (suc n) a i low high =
     (λ q. within-second (kMerger-within n (suc a) i q (omega arith)))
 
 module _ (links i : ℕ) (low : 1 ≤ i) (high : i ≤ links) where
+  -- the k-merger of each link is an input of the tree
   pub kMerger-input : Input (kMerger i) (treeOf links)
   unfolding treeOf
   kMerger-input = kMerger-within links 1 i low (omega arith)
 
+  -- and so is each S(i,j)
   pub s-input : (j : ℕ) → 1 ≤ j → j ≤ k i → Input (buffer (numberOfS i j) (s i)) (treeOf links)
   unfolding numberOfS
   s-input j some few =
@@ -153,6 +152,7 @@ shrinks-link q after i low high sh h =
       not-over = omega (arith, h .not-over, sh .inputs (kMerger-input (q .links) i low high));
     }
 
+-- the whole queue
 pub shrinks-kept : (room : ℕ) (q : Queue) (after : Buffers) → Shrinks (treeOf (q .links)) (q .buffers) after → Kept room q → Kept room (withBuffers q after)
 unfolding withBuffers
 shrinks-kept room q after sh h =
@@ -179,10 +179,12 @@ module _ (room : ℕ) (q : Queue) (shape : Shaped q) (h : Kept room q) where
   pub look-kept : Kept room (withBuffers q (ready (keyOf q) tree (q .buffers) .buffers))
   look-kept = shrinks-kept room q (ready (keyOf q) tree (q .buffers) .buffers) (ready-shrinks (keyOf q) (tree-roomy (q .links)) (q .buffers) beside) h
 
+  -- a take leaves as many counters and buffers
   pub take-shaped : Shaped (withBuffers q (takeOne (keyOf q) tree (q .buffers) .buffers))
   unfolding withBuffers
   take-shaped = record { counters = shape .counters; buffers = take-frame (keyOf q) tree (q .buffers) .as-many ∙ shape .buffers }
 
+  -- and so does a look
   pub look-shaped : Shaped (withBuffers q (ready (keyOf q) tree (q .buffers) .buffers))
   unfolding withBuffers
   look-shaped = record { counters = shape .counters; buffers = ready-frame (keyOf q) tree (q .buffers) .as-many ∙ shape .buffers }
@@ -197,40 +199,44 @@ none-fits (merger n c one two) bs h =
     (omega arith, none-fits one bs (λ m st. h m (in-first st)), none-fits two bs (λ m st. h m (in-second st)))
 
 module _ (links : ℕ) where
-  empty : (m : ℕ) → getD (fresh links .buffers) m [] ≡ []
+  -- "Setup empties all buffers"
+  pub fresh-empty : (m : ℕ) → getD (fresh links .buffers) m [] ≡ []
   unfolding fresh
-  empty m = same-at (bufferCount links) m []
+  fresh-empty m = same-at (bufferCount links) m []
 
-  empty-tree : (t : Tree) → heldIn t (fresh links .buffers) ≡ 0
-  empty-tree t = stands-none t (fresh links .buffers) (λ m st. empty m)
+  -- nothing is held in any tree after it
+  pub fresh-held : (t : Tree) → heldIn t (fresh links .buffers) ≡ 0
+  fresh-held t = stands-none t (fresh links .buffers) (λ m st. fresh-empty m)
 
-  one-each : (i : ℕ) → 1 ≤ i → i ≤ links → counter (fresh links) i ≡ 1
+  -- "and makes every c equal to 1"
+  pub fresh-counter : (i : ℕ) → 1 ≤ i → i ≤ links → counter (fresh links) i ≡ 1
   unfolding fresh counter
-  one-each i low high = getD-replicate links (i - 1) 1 0 (omega arith)
+  fresh-counter i low high = getD-replicate links (i - 1) 1 0 (omega arith)
 
   fresh-link : (i : ℕ) → 1 ≤ i → i ≤ links → LinkKept (fresh links) i
   fresh-link i low high =
-      let e = one-each i low high in
+      let e = fresh-counter i low high in
       record {
         counter-low = omega arith;
         counter-high = omega (arith, k-some i);
-        unused = λ j c few. empty (numberOfS i j);
-        not-over = rw (empty-tree (kMerger i)) (omega arith);
+        unused = λ j c few. fresh-empty (numberOfS i j);
+        not-over = rw (fresh-held (kMerger i)) (omega arith);
       }
 
   -- after a setup the book rules hold
   pub fresh-kept : T (isLinkNumber links) → Kept 7 (fresh links)
   unfolding insertion fresh
   fresh-kept number =
-      let e = ap length (empty 0) in
+      let e = ap length (fresh-empty 0) in
       record {
         number = number;
         few = omega arith;
-        fits = none-fits (treeOf links) (fresh links .buffers) (λ m st. empty m);
+        fits = none-fits (treeOf links) (fresh links .buffers) (λ m st. fresh-empty m);
         each = fresh-link;
-        at-most = omega (arith, empty-tree (treeOf links));
+        at-most = omega (arith, fresh-held (treeOf links));
       }
 
+  -- as many counters and buffers as the links ask for
   pub fresh-shaped : Shaped (fresh links)
   unfolding fresh
   fresh-shaped = record { counters = length-replicate links 1; buffers = length-replicate (bufferCount links) [] }

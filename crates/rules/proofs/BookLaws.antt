@@ -1,13 +1,13 @@
 -- The book rules as statements: the plain book of a queue is sound exactly where they hold.
 use Prim.Native.Nat.{ℕ, zero, suc, _+_, _-_, _*_, _≤_, _<_}
 use mathlib.Core.Path.{_≡_, refl, sym, ap, _∙_}
-use mathlib.Core.Bool.{Bool, true, false}
-use mathlib.Core.List.{List, [], _∷_, _++_, map}
+use mathlib.Core.Bool.{Bool, false}
+use mathlib.Core.List.{[]}
 use native.Mathlib.Omega.{arith}
 use lib.ListN.{length, getD, replicate, List·getD-map}
-use lib.Dec.{T, leb, eqb, leb→le, le→leb, eqb→eq, eqb-refl}
-use Rattle.rules.specs.Links.{s, k, capacity, first, numberOfS, bufferCount, most, mostLinks}
-use Rattle.rules.specs.Tests.{_and_, _or_, _implies_, every}
+use lib.Dec.{T, leb, eqb, leb→le, le→leb, eqb→eq}
+use Rattle.rules.specs.Links.{s, k, capacity, first, numberOfS, bufferCount, most}
+use Rattle.rules.specs.Tests.{_and_, _or_, every}
 use Rattle.rules.specs.Tree.{Buffers, Tree, exhausted, buffer, merger, kMerger, linksFrom, treeOf}
 use Rattle.rules.specs.Take.{heldIn, insertion}
 use Rattle.rules.specs.Queue.{Queue, counter, heldFrom, held}
@@ -23,6 +23,7 @@ use Rattle.rules.proofs.Capacity.{Inside, link-inside, inside-kMerger}
 -- ---- capacities of all links
 
 module _ (bs : Buffers) where
+  -- no buffer of these links has more than its capacity in the tree, so none has more than its capacity by its number
   pub links-inside : (n i : ℕ) → 0 < i → Fits (linksFrom i n) bs → (m : ℕ) → i ≤ m → m < i + n → Inside m bs
   unfolding linksFrom
   links-inside zero i some h m low high = absurd (omega arith)
@@ -31,6 +32,7 @@ module _ (bs : Buffers) where
       (λ q. let e : m ≡ i = omega arith in rw e (link-inside i some bs (h .0) (h .1)))
       (λ q. links-inside n (suc i) (omega arith) (h .2) m q (omega arith))
 
+  -- and the other way round
   pub inside-links : (n i : ℕ) → 0 < i → ((m : ℕ) → i ≤ m → m < i + n → Inside m bs) → Fits (linksFrom i n) bs
   unfolding linksFrom
   inside-links zero i some h = tt
@@ -65,47 +67,53 @@ same-at zero n a = refl
 same-at (suc m) zero a = refl
 same-at (suc m) (suc n) a = same-at m n a
 
-module _ (q : Queue) where
-  abbrev b : Book
-  b = plainBook q
+-- a book that says of a queue how many links it has, its counters, and how many entries each buffer has
+pub record Describes (b : Book) (q : Queue) : Type 0 where
+  pub links : b .links ≡ q .links
+  pub counters : b .counters ≡ q .counters
+  pub counts : (n : ℕ) → count b n ≡ length (getD (q .buffers) n [])
 
-  count-is : (n : ℕ) → count b n ≡ length (getD (q .buffers) n [])
-  unfolding count plainBook
-  count-is n = List·getD-map length (q .buffers) n []
+-- the plain book does
+pub plain-describes : (q : Queue) → Describes (plainBook q) q
+unfolding count plainBook
+plain-describes q = record { links = refl; counters = refl; counts = λ n. List·getD-map length (q .buffers) n [] }
 
-  start-is : (n : ℕ) → startPlace b n ≡ 0
-  unfolding startPlace plainBook
-  start-is n = same-at (length (q .buffers)) n 0
+-- the tests of a book, from the second to the last
+module _ (b : Book) where
+  abbrev sixthOn : Bool
+  sixthOn = marksRight b (buffer 0 8) false and marksRight b (treeOf (b .links)) false
 
-  mark-is : (n : ℕ) → marked b n ≡ false
-  unfolding marked plainBook
-  mark-is n = same-at (length (q .buffers)) n false
+  abbrev fifthOn : Bool
+  fifthOn = leb (together b 0 (bufferCount (b .links))) (most (b .links)) and sixthOn
 
+  abbrev fourthOn : Bool
+  fourthOn = every (linkSound b) 1 (b .links) and fifthOn
+
+  abbrev thirdOn : Bool
+  thirdOn = leb (count b 0) 7 and fourthOn
+
+  abbrev secondOn : Bool
+  secondOn = inside b 0 8 and thirdOn
+
+module _ (b : Book) (q : Queue) (describes : Describes b q) where
   c-is : (i : ℕ) → c b i ≡ counter q i
-  unfolding c counter plainBook
-  c-is i = refl
+  unfolding c counter
+  c-is i = ap (λ cs. getD cs (i - 1) 0) (describes .counters)
 
   together-is : (m n : ℕ) → together b m n ≡ heldFrom m n (q .buffers)
   unfolding together heldFrom
   together-is m zero = refl
-  together-is m (suc n) = omega (arith, count-is m, together-is (suc m) n)
-
-  -- no mark breaks a rule where there is none
-  marks-right : (t : Tree) → T (marksRight b t false)
-  unfolding marksRight
-  marks-right exhausted = tt
-  marks-right (buffer n c) = rw (mark-is n) tt
-  marks-right (merger n c one two) = rw (mark-is n) (and-both (marksRight b one false) (marksRight b two false) (marks-right one) (marks-right two))
+  together-is m (suc n) = omega (arith, describes .counts m, together-is (suc m) n)
 
   -- ---- each test, and what it says
 
   inside-says : (n room : ℕ) → T (inside b n room) → length (getD (q .buffers) n []) ≤ room
   unfolding inside
-  inside-says n room t = omega (arith, leb→le (startPlace b n + count b n) room t, start-is n, count-is n)
+  inside-says n room t = omega (arith, leb→le (startPlace b n + count b n) room t, describes .counts n)
 
-  says-inside : (n room : ℕ) → length (getD (q .buffers) n []) ≤ room → T (inside b n room)
+  says-inside : (n room : ℕ) → startPlace b n ≡ 0 → length (getD (q .buffers) n []) ≤ room → T (inside b n room)
   unfolding inside
-  says-inside n room h = le→leb (startPlace b n + count b n) room (omega (arith, start-is n, count-is n))
+  says-inside n room start h = le→leb (startPlace b n + count b n) room (omega (arith, describes .counts n))
 
   module _ (i : ℕ) (link : 0 < i) where
     counter-says : T (counterInside b i) → (1 ≤ counter q i) × (counter q i ≤ k i + 1)
@@ -122,13 +130,13 @@ module _ (q : Queue) where
     unfolding unusedEmpty
     unused-says high t j low most =
         let z = every-at (λ j. eqb (count b (numberOfS i j)) 0) (c b i) (k i + 1 - c b i) t j (omega (arith, c-is i)) (omega (arith, c-is i)) in
-        no-entries (getD (q .buffers) (numberOfS i j) []) (omega (arith, eqb→eq (count b (numberOfS i j)) 0 z, count-is (numberOfS i j)))
+        no-entries (getD (q .buffers) (numberOfS i j) []) (omega (arith, eqb→eq (count b (numberOfS i j)) 0 z, describes .counts (numberOfS i j)))
 
     says-unused : LinkKept q i → T (unusedEmpty b i)
     unfolding unusedEmpty
     says-unused h =
         every-all (λ j. eqb (count b (numberOfS i j)) 0) (c b i) (k i + 1 - c b i) (λ j low high.
-        let n = count-is (numberOfS i j) in
+        let n = describes .counts (numberOfS i j) in
         let e : count b (numberOfS i j) ≡ 0 = n ∙ ap length (h .unused j (omega (arith, c-is i)) (omega (arith, c-is i, h .counter-high))) in
         rw e tt)
 
@@ -148,10 +156,10 @@ module _ (q : Queue) where
     inside-link-says t j less =
         inside-says (first i + j) (capacity i j) (every-at (λ j. inside b (first i + j) (capacity i j)) 0 (2 * k i) t j (omega arith) (omega arith))
 
-    says-inside-link : Inside i (q .buffers) → T (insideLink b i)
+    says-inside-link : ((n : ℕ) → startPlace b n ≡ 0) → Inside i (q .buffers) → T (insideLink b i)
     unfolding insideLink
-    says-inside-link h =
-        every-all (λ j. inside b (first i + j) (capacity i j)) 0 (2 * k i) (λ j low high. says-inside (first i + j) (capacity i j) (h j (omega arith)))
+    says-inside-link start h =
+        every-all (λ j. inside b (first i + j) (capacity i j)) 0 (2 * k i) (λ j low high. says-inside (first i + j) (capacity i j) (start (first i + j)) (h j (omega arith)))
 
     link-says : T (linkSound b i) → LinkKept q i × Inside i (q .buffers)
     unfolding linkSound
@@ -168,55 +176,69 @@ module _ (q : Queue) where
           inside-link-says (and-one (insideLink b i) (counterInside b i and unusedEmpty b i and linkNotOver b i) t),
         )
 
-    says-link : LinkKept q i → Inside i (q .buffers) → T (linkSound b i)
+    says-link : ((n : ℕ) → startPlace b n ≡ 0) → LinkKept q i → Inside i (q .buffers) → T (linkSound b i)
     unfolding linkSound
-    says-link h f =
-        and-both (insideLink b i) (counterInside b i and unusedEmpty b i and linkNotOver b i) (says-inside-link f)
+    says-link start h f =
+        and-both (insideLink b i) (counterInside b i and unusedEmpty b i and linkNotOver b i) (says-inside-link start f)
         (and-both (counterInside b i) (unusedEmpty b i and linkNotOver b i) (says-counter h) (and-both (unusedEmpty b i) (linkNotOver b i) (says-unused h) (says-over h)))
 
   -- ---- the whole book
 
-  all-is : together b 0 (bufferCount (q .links)) ≡ heldAll (treeOf (q .links)) (q .buffers)
+  all-is : together b 0 (bufferCount (b .links)) ≡ heldAll (treeOf (q .links)) (q .buffers)
   unfolding held
-  all-is = together-is 0 (bufferCount (q .links)) ∙ held-split q
+  all-is = ap (λ l. together b 0 (bufferCount l)) (describes .links) ∙ together-is 0 (bufferCount (q .links)) ∙ held-split q
 
-  -- what a sound plain book says
+  -- what a sound book says of its queue
   pub sound-says : T (sound b) → Kept 7 q
-  unfolding sound plainBook treeOf insertion
+  unfolding sound treeOf insertion
   sound-says t =
-      let l = q .links in
-      let a₇ = marksRight b (buffer 0 8) false and marksRight b (treeOf l) false in
-      let a₆ = leb (together b 0 (bufferCount l)) (most l) and a₇ in
-      let a₅ = every (linkSound b) 1 l and a₆ in
-      let a₄ = leb (count b 0) 7 and a₅ in
-      let a₃ = inside b 0 8 and a₄ in
-      let t₃ = and-two (isLinkNumber l) a₃ t in
-      let t₄ = and-two (inside b 0 8) a₄ t₃ in
-      let t₅ = and-two (leb (count b 0) 7) a₅ t₄ in
-      let t₆ = and-two (every (linkSound b) 1 l) a₆ t₅ in
-      let links = and-one (every (linkSound b) 1 l) a₆ t₅ in
-      let at : (i : ℕ) → 1 ≤ i → i ≤ l → LinkKept q i × Inside i (q .buffers) = λ i low high. link-says i low (every-at (linkSound b) 1 l links i low (omega arith)) in
+      let l = b .links in
+      let same = describes .links in
+      let t₃ = and-two (isLinkNumber l) (secondOn b) t in
+      let t₄ = and-two (inside b 0 8) (thirdOn b) t₃ in
+      let t₅ = and-two (leb (count b 0) 7) (fourthOn b) t₄ in
+      let t₆ = and-two (every (linkSound b) 1 l) (fifthOn b) t₅ in
+      let links = and-one (every (linkSound b) 1 l) (fifthOn b) t₅ in
+      let at : (i : ℕ) → 1 ≤ i → i ≤ q .links → LinkKept q i × Inside i (q .buffers) = λ i low high. link-says i low (every-at (linkSound b) 1 l links i low (omega arith)) in
+      let number : T (isLinkNumber l) = and-one (isLinkNumber l) (secondOn b) t in
+      let high : together b 0 (bufferCount l) ≤ most (q .links) = rw (← same) (leb→le (together b 0 (bufferCount l)) (most l) (and-one (leb (together b 0 (bufferCount l)) (most l)) (sixthOn b) t₆)) in
       record {
-        number = and-one (isLinkNumber l) a₃ t;
-        few = omega (arith, leb→le (count b 0) 7 (and-one (leb (count b 0) 7) a₅ t₄), count-is 0);
-        fits = inside-links (q .buffers) l 1 (omega arith) (λ m low high. at m low (omega arith) .1);
+        number = rw (← same) number;
+        few = omega (arith, leb→le (count b 0) 7 (and-one (leb (count b 0) 7) (fourthOn b) t₄), describes .counts 0);
+        fits = inside-links (q .buffers) (q .links) 1 (omega arith) (λ m low high. at m low (omega arith) .1);
         each = λ i low high. at i low high .0;
-        at-most = omega (arith, leb→le (together b 0 (bufferCount l)) (most l) (and-one (leb (together b 0 (bufferCount l)) (most l)) a₇ t₆), all-is);
+        at-most = omega (arith, all-is);
       }
 
-  -- and where the rules hold it is sound
-  pub says-sound : Kept 7 q → T (sound b)
+module _ (q : Queue) where
+  abbrev plain : Book
+  plain = plainBook q
+
+  start-is : (n : ℕ) → startPlace plain n ≡ 0
+  unfolding startPlace plainBook
+  start-is n = same-at (length (q .buffers)) n 0
+
+  mark-is : (n : ℕ) → marked plain n ≡ false
+  unfolding marked plainBook
+  mark-is n = same-at (length (q .buffers)) n false
+
+  -- no mark breaks a rule where there is none
+  marks-right : (t : Tree) → T (marksRight plain t false)
+  unfolding marksRight
+  marks-right exhausted = tt
+  marks-right (buffer n c) = rw (mark-is n) tt
+  marks-right (merger n c one two) = rw (mark-is n) (and-both (marksRight plain one false) (marksRight plain two false) (marks-right one) (marks-right two))
+
+  -- where the rules hold, the plain book is sound
+  pub says-sound : Kept 7 q → T (sound plain)
   unfolding sound plainBook treeOf insertion
   says-sound h =
       let l = q .links in
-      let a₇ = marksRight b (buffer 0 8) false and marksRight b (treeOf l) false in
-      let a₆ = leb (together b 0 (bufferCount l)) (most l) and a₇ in
-      let a₅ = every (linkSound b) 1 l and a₆ in
-      let a₄ = leb (count b 0) 7 and a₅ in
-      let a₃ = inside b 0 8 and a₄ in
-      and-both (isLinkNumber l) a₃ (h .number)
-      (and-both (inside b 0 8) a₄ (says-inside 0 8 (omega (arith, h .few)))
-      (and-both (leb (count b 0) 7) a₅ (le→leb (count b 0) 7 (omega (arith, h .few, count-is 0)))
-      (and-both (every (linkSound b) 1 l) a₆ (every-all (linkSound b) 1 l (λ i low high. says-link i low (h .each i low (omega arith)) (links-inside (q .buffers) l 1 (omega arith) (h .fits) i low high)))
-      (and-both (leb (together b 0 (bufferCount l)) (most l)) a₇ (le→leb (together b 0 (bufferCount l)) (most l) (omega (arith, h .at-most, all-is)))
+      let b = plain in
+      let d = plain-describes q in
+      and-both (isLinkNumber l) (secondOn b) (h .number)
+      (and-both (inside b 0 8) (thirdOn b) (says-inside b q d 0 8 (start-is 0) (omega (arith, h .few)))
+      (and-both (leb (count b 0) 7) (fourthOn b) (le→leb (count b 0) 7 (omega (arith, h .few, d .counts 0)))
+      (and-both (every (linkSound b) 1 l) (fifthOn b) (every-all (linkSound b) 1 l (λ i low high. says-link b q d i low start-is (h .each i low (omega arith)) (links-inside (q .buffers) l 1 (omega arith) (h .fits) i low high)))
+      (and-both (leb (together b 0 (bufferCount l)) (most l)) (sixthOn b) (le→leb (together b 0 (bufferCount l)) (most l) (omega (arith, h .at-most, all-is b q d)))
       (and-both (marksRight b (buffer 0 8) false) (marksRight b (treeOf l) false) (marks-right (buffer 0 8)) (marks-right (treeOf l)))))))

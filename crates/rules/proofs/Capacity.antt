@@ -1,21 +1,23 @@
 -- The capacity of a buffer by its number is its capacity in the tree.
 use Prim.Native.Nat.{ℕ, zero, suc, _+_, _-_, _*_, _^_, _≤_, _<_}
-use mathlib.Core.Path.{_≡_, refl, sym, ap, _∙_}
+use mathlib.Core.Path.{_≡_, refl, ap, _∙_}
 use mathlib.Core.Bool.{Bool, true, false}
 use mathlib.Core.List.{List, [], _∷_, _++_}
 use native.Mathlib.Omega.{arith}
 use native.Mathlib.Nat.{two-pow-succ}
 use lib.ListN.{length, getD}
+use lib.Seq.{getD-append-seam}
 use lib.Pow.{pow-pos, pow-mono}
-use lib.Dec.{T, leb, ltb}
+use lib.Dec.{leb, ltb}
 use Rattle.rules.specs.Links.{least, s, k, height, levels, depthOf, capacity, first}
-use Rattle.rules.specs.Tree.{Buffers, Tree, exhausted, buffer, merger, perfect, kMerger, linksFrom, treeOf}
+use Rattle.rules.specs.Tree.{Buffers, perfect, kMerger}
 use Rattle.rules.proofs.Full.{Fits}
-use Rattle.rules.proofs.Sizes.{by-leb, leb-false, k-power, length-levels, first-next}
-use Rattle.rules.proofs.Numbering.{doubled, doubled-grows, doubled-mono, doubled-power, Under, level-of}
+use Rattle.rules.proofs.Sizes.{by-leb, leb-false, k-power, length-levels}
+use Rattle.rules.proofs.Numbering.{doubled, doubled-mono, doubled-power, level-of}
 
 -- ---- the depth of a number
 
+-- a test that holds
 pub leb-true : (x y : ℕ) → x ≤ y → leb x y ≡ true
 leb-true x y h = by-leb x y (λ b. b ≡ true) (λ l. refl) (λ l. absurd (omega arith))
 
@@ -91,10 +93,12 @@ module _ (i : ℕ) (link : 0 < i) (bs : Buffers) where
       let high : y < 2 * 2 ^ d = omega (arith, u .high, doubled-power d 2) in
       rw (capacity-is d y low high) (fits-level (first i) (s i) bs (levels i) 1 h d y (rw (length-levels i link) (u .deep)) (u .low) (u .high))
 
+  -- what the tree allows in a link is what the numbers allow
   pub link-inside : length (getD bs (first i) []) ≤ capacity i 0 → Fits (kMerger i) bs → Inside i bs
   link-inside a h zero less = let e : first i + 0 ≡ first i = omega arith in rw e a
   link-inside a h (suc j) less = kMerger-inside h (suc j) (omega arith) less
 
+  -- and the other way round, below A(i)
   pub inside-kMerger : Inside i bs → Fits (kMerger i) bs
   unfolding kMerger
   inside-kMerger h =
@@ -103,3 +107,9 @@ module _ (i : ℕ) (link : 0 < i) (bs : Buffers) where
       let u : y < 2 * 2 ^ d = omega (arith, doubled-power d 2) in
       let most : 2 ^ d ≤ 2 ^ height i = pow-mono {i = d} {j = height i} (rw (length-levels i link) at deep) in
       rw (capacity-is d y l u) at (h y (omega (arith, k-power i))))
+
+  -- "k buffers S(i,1) to S(i,k) of s slots"
+  pub s-capacity : (y : ℕ) → k i ≤ y → y < 2 * k i → capacity i y ≡ s i
+  s-capacity y low high =
+      let e : getD (levels i ++ s i ∷ []) (height i) 0 ≡ s i = rw (← length-levels i link) (getD-append-seam (levels i) (s i) [] 0) in
+      capacity-is (height i) y (omega (arith, k-power i)) (omega (arith, k-power i)) ∙ e

@@ -11,9 +11,11 @@ Below exhausted = Unit {0}
 Below (buffer n c) = Unit {0}
 Below (merger n c one two) = (List ℕ × Below one) × (List ℕ × Below two)
 
+-- the entries of the top buffer, and what stands below it
 abbrev pub Contents : Tree → Type 0
 Contents t = List ℕ × Below t
 
+-- what the buffers show below the top
 unfoldable pub below : (t : Tree) → Buffers → Below t
 below exhausted bs = tt
 below (buffer n c) bs = tt
@@ -35,6 +37,7 @@ pub record Run (A B : Type 0) : Type 0 where
   pub two : List ℕ × B
   pub steps : ℕ
 
+-- so many steps more
 abbrev pub moreSteps : {A B : Type 0} → ℕ → Run A B → Run A B
 moreSteps n z = record { out = z .out; one = z .one; two = z .two; steps = n + z .steps }
 
@@ -49,6 +52,7 @@ stepThen rest out steps a b stop = record { out = out; one = ([], a); two = ([],
 stepThen rest out steps a b (move e xs ys) = moreSteps (suc steps) (rest (out ++ e ∷ []) (xs, a) (ys, b))
 
 module _ (key : ℕ → ℕ) where
+  -- "while its output is not full": with room for so many more
   unfoldable pub mergeInto : {A B : Type 0} → (List ℕ × A → Refilled A) → (List ℕ × B → Refilled B) → ℕ → List ℕ → List ℕ × A → List ℕ × B → Run A B
   unfolding refill stepThen mergeStep
   mergeInto fillOne fillTwo zero out one two = record { out = out; one = one; two = two; steps = 0 }
@@ -58,6 +62,7 @@ module _ (key : ℕ → ℕ) where
       stepThen (mergeInto fillOne fillTwo room) out (first .steps + second .steps) (first .contents .1) (second .contents .1)
       (mergeStep key (first .contents .0) (second .contents .0))
 
+  -- "Fill a merger"
   unfoldable pub fillContents : (t : Tree) → Contents t → Refilled (Below t)
   unfolding mergeInto
   fillContents exhausted t = record { contents = t; steps = 0 }

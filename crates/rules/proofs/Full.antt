@@ -1,18 +1,18 @@
 -- After a fill the output is full or nothing stands below it; capacities are kept; and where nothing stands in a tree, a fill does nothing.
-use Prim.Native.Nat.{ℕ, zero, suc, _+_, _-_, _*_, _≤_, _<_}
-use mathlib.Core.Path.{_≡_, refl, sym, ap, _∙_, subst}
+use Prim.Native.Nat.{ℕ, zero, suc, _+_, _-_, _≤_, _<_}
+use mathlib.Core.Path.{_≡_, refl, sym, ap, subst}
 use mathlib.Core.List.{List, [], _∷_, _++_}
 use native.Mathlib.Omega.{arith}
 use lib.ListN.{length, getD, length-append}
 use Rattle.rules.specs.Tree.{Buffers, Tree, exhausted, buffer, merger, entries}
-use Rattle.rules.specs.Merge.{Step, stop, move, mergeStep}
+use Rattle.rules.specs.Merge.{Step, mergeStep}
 use Rattle.rules.specs.Fill.{Filled, untouched, ifEmpty, stepAnd, fillRoom, fill}
 use Rattle.rules.specs.Take.{heldIn}
 use Rattle.rules.proofs.Steps.{Stepped, stops, from-first, from-second, stepped}
 use Rattle.rules.proofs.Numbers.{Among}
 use Rattle.rules.proofs.Contents.{Below, Contents, below, view, Refilled, Run, moreSteps, refill, stepThen, mergeInto, fillContents}
 use Rattle.rules.proofs.Lens.{fill-seen}
-use Rattle.rules.proofs.Weight.{sumOf, sumOf-ones, weightIn, weightBelow, weight-seen, held-weight, fill-held}
+use Rattle.rules.proofs.Weight.{sumOf-ones, weightBelow, weight-seen, held-weight, fill-held}
 
 -- every merger's output has room for an entry
 pub data Roomy : Tree → Type 0 where
@@ -30,6 +30,7 @@ topCapacity (merger n c one two) = c
 abbrev pub heldBelow : (t : Tree) → ℕ → Below t → ℕ
 heldBelow t d b = weightBelow (λ d e. 1) t d b
 
+-- what a tree has stands at its top or below
 pub held-seen : (t : Tree) (d : ℕ) (bs : Buffers) → heldIn t bs ≡ length (entries t bs) + heldBelow t d (below t bs)
 held-seen t d bs = omega (arith, held-weight t d bs, weight-seen (λ d e. 1) t d bs, sumOf-ones (entries t bs))
 
@@ -39,6 +40,7 @@ held-seen t d bs = omega (arith, held-weight t d bs, weight-seen (λ d e. 1) t d
 abbrev pub Drains : {A : Type 0} → (A → ℕ) → (List ℕ × A → Refilled A) → Type 0
 Drains {A} held f = (z : List ℕ × A) → length (f z .contents .0) ≡ 0 → held (f z .contents .1) ≡ 0
 
+-- so after a fill that is made only where the input is empty
 pub refill-drains : {A : Type 0} (held : A → ℕ) (f : List ℕ × A → Refilled A) → Drains held f
     → (es : List ℕ) (a : A) → length (refill f es a .contents .0) ≡ 0 → held (refill f es a .contents .1) ≡ 0
 unfolding refill
@@ -130,6 +132,7 @@ module _ (key : ℕ → ℕ) {t : Tree} (roomy : Roomy t) (bs : Buffers) (a : Am
 
 -- ---- nothing in the tree
 
+-- a run of no length is empty
 pub no-entries : (es : List ℕ) → length es ≡ 0 → es ≡ []
 no-entries [] e = refl
 no-entries (x ∷ es) e = absurd (omega arith)
@@ -158,18 +161,22 @@ fill-none key (merger n c one two) bs h =
 
 -- ---- what pops and fills of the inputs keep, a run keeps
 
+-- what holds on when a head leaves
 abbrev pub Pops : {A : Type 0} → (List ℕ × A → Type 0) → Type 0
 Pops {A} G = (e : ℕ) (es : List ℕ) (a : A) → G (e ∷ es, a) → G (es, a)
 
+-- what holds on when an input is filled
 abbrev pub Fills : {A : Type 0} → (List ℕ × A → Type 0) → (List ℕ × A → Refilled A) → Type 0
 Fills {A} G f = (z : List ℕ × A) → G z → G (f z .contents)
 
+-- so when it is filled only where it is empty
 pub refill-keeps : {A : Type 0} (G : List ℕ × A → Type 0) (f : List ℕ × A → Refilled A) → Fills G f → (es : List ℕ) (a : A) → G (es, a) → G (refill f es a .contents)
 unfolding refill
 refill-keeps G f h [] a g = h ([], a) g
 refill-keeps G f h (e ∷ es) a g = g
 
 module _ (key : ℕ → ℕ) {A B : Type 0} (G : List ℕ × A → Type 0) (H : List ℕ × B → Type 0) (pg : Pops G) (ph : Pops H) where
+  -- of both inputs
   pub record Keeps (z : Run A B) : Type 0 where
     pub one : G (z .one)
     pub two : H (z .two)
@@ -187,6 +194,7 @@ module _ (key : ℕ → ℕ) {A B : Type 0} (G : List ℕ × A → Type 0) (H : 
   step-keeps rest h out steps a b (from-first {e = e} {xs = xs} {ys = ys} l) g i = more-keeps (suc steps) (h (out ++ e ∷ []) (xs, a) (ys, b) (pg e xs a g) i)
   step-keeps rest h out steps a b (from-second {e = e} {xs = xs} {ys = ys} l) g i = more-keeps (suc steps) (h (out ++ e ∷ []) (xs, a) (ys, b) g (ph e ys b i))
 
+  -- a run of merge steps keeps what pops and fills keep
   pub run-keeps : (f : List ℕ × A → Refilled A) → Fills G f → (g : List ℕ × B → Refilled B) → Fills H g → (room : ℕ) → RunKeeps (mergeInto key f g room)
   unfolding mergeInto
   run-keeps f hf g hg zero out one two p q = record { one = p; two = q }
@@ -204,21 +212,25 @@ Fits exhausted bs = Unit {0}
 Fits (buffer n c) bs = length (getD bs n []) ≤ c
 Fits (merger n c one two) bs = (length (getD bs n []) ≤ c) × Fits one bs × Fits two bs
 
+-- the same of contents, below the top
 abbrev pub FitsBelow : (t : Tree) → Below t → Type 0
 FitsBelow exhausted b = Unit {0}
 FitsBelow (buffer n c) b = Unit {0}
 FitsBelow (merger n c one two) b =
     ((length (b .0 .0) ≤ topCapacity one) × FitsBelow one (b .0 .1)) × ((length (b .1 .0) ≤ topCapacity two) × FitsBelow two (b .1 .1))
 
+-- and of all
 abbrev pub FitsIn : (t : Tree) → Contents t → Type 0
 FitsIn t z = (length (z .0) ≤ topCapacity t) × FitsBelow t (z .1)
 
+-- capacities, seen through the tree
 pub fits-seen : (t : Tree) (bs : Buffers) → Fits t bs → FitsIn t (view t bs)
 unfolding entries below
 fits-seen exhausted bs h = (omega arith, tt)
 fits-seen (buffer n c) bs h = (h, tt)
 fits-seen (merger n c one two) bs h = (h .0, (fits-seen one bs (h .1), fits-seen two bs (h .2)))
 
+-- and back
 pub seen-fits : (t : Tree) (bs : Buffers) → FitsIn t (view t bs) → Fits t bs
 unfolding entries below
 seen-fits exhausted bs h = tt
@@ -228,6 +240,7 @@ seen-fits (merger n c one two) bs h = (h .0, seen-fits one bs (h .1 .0), seen-fi
 fits-pop : (t : Tree) → Pops (FitsIn t)
 fits-pop t e es b g = (omega (arith, g .0), g .1)
 
+-- a fill of contents keeps capacities
 pub fits-fill : (key : ℕ → ℕ) {t : Tree} → Roomy t → Fills (FitsIn t) (fillContents key t)
 unfolding fillContents
 fits-fill key nothing z g = g

@@ -1,14 +1,15 @@
 -- Sums over a queue's entries, along the buffers' numbers and down the tree; and so how many entries are held.
-use Prim.Native.Nat.{ℕ, zero, suc, _+_, _-_, _*_, _^_, _≤_, _<_}
-use mathlib.Core.Path.{_≡_, refl, sym, ap, _∙_}
-use mathlib.Core.List.{List, [], _∷_, _++_}
+use Prim.Native.Nat.{ℕ, zero, suc, _+_, _-_, _*_, _≤_, _<_}
+use mathlib.Core.Path.{_≡_, refl, sym, _∙_}
+use mathlib.Core.Logic.{_≢_}
+use mathlib.Core.List.{List, [], _∷_}
 use native.Mathlib.Omega.{arith}
 use lib.ListN.{length, getD}
 use Rattle.rules.specs.Links.{s, k, height, levels, first, bufferCount}
 use Rattle.rules.specs.Tree.{Buffers, Tree, exhausted, buffer, merger, perfect, kMerger, linksFrom, treeOf}
 use Rattle.rules.specs.Take.{heldIn, insertion}
 use Rattle.rules.specs.Queue.{Queue, heldFrom, held}
-use Rattle.rules.proofs.Sizes.{k-power, k-some, length-levels, first-one, first-next, first-some, first-further}
+use Rattle.rules.proofs.Sizes.{by-eqb, k-power, k-some, length-levels, first-one, first-next, first-some, first-further}
 use Rattle.rules.proofs.Numbering.{doubled, doubled-grows, doubled-power, count-is}
 use Rattle.rules.proofs.Weight.{sumOf, sumOf-ones, weightIn, held-weight}
 
@@ -113,11 +114,13 @@ module _ (g : ℕ → ℕ) (bs : Buffers) where
 
 -- ---- how many are held
 
+-- the number held is a weight
 pub held-from : (b n : ℕ) (bs : Buffers) → heldFrom b n bs ≡ weightFrom (λ e. 1) b n bs
 unfolding heldFrom weightFrom
 held-from b zero bs = refl
 held-from b (suc n) bs = omega (arith, held-from (suc b) n bs, sumOf-ones (getD bs b []))
 
+-- "B(i), inner buffers and S of link i together", counted along the numbers
 pub kMerger-held : (i : ℕ) → 0 < i → (bs : Buffers) → heldIn (kMerger i) bs ≡ heldFrom (first i + 1) (2 * k i - 1) bs
 kMerger-held i link bs = held-weight (kMerger i) 0 bs ∙ kMerger-weight (λ e. 1) bs i 0 link ∙ sym (held-from (first i + 1) (2 * k i - 1) bs)
 
@@ -128,3 +131,21 @@ held-split q =
     let bs = q .buffers in
     let l = q .links in
     omega (arith, held-from 0 (bufferCount l) bs, tree-weight (λ e. 1) bs l, held-weight (linksFrom 1 l) 0 bs, sumOf-ones (getD bs 0 []))
+
+-- ---- more and fewer
+
+-- where no buffer has more, no more are held
+pub held-mono : (b n : ℕ) (before after : Buffers) → ((m : ℕ) → b ≤ m → m < b + n → length (getD after m []) ≤ length (getD before m [])) → heldFrom b n after ≤ heldFrom b n before
+unfolding heldFrom
+held-mono b zero before after h = omega arith
+held-mono b (suc n) before after h = omega (arith, h b (omega arith) (omega arith), held-mono (suc b) n before after (λ m low high. h m (omega arith) (omega arith)))
+
+-- and where one has at most r more, at most r more
+pub held-but-one : (b n x r : ℕ) (before after : Buffers) → ((m : ℕ) → m ≢ x → length (getD after m []) ≤ length (getD before m []))
+    → length (getD after x []) ≤ r + length (getD before x []) → heldFrom b n after ≤ heldFrom b n before + r
+unfolding heldFrom
+held-but-one b zero x r before after h more = omega arith
+held-but-one b (suc n) x r before after h more =
+    by-eqb b x (λ t. length (getD after b []) + heldFrom (suc b) n after ≤ length (getD before b []) + heldFrom (suc b) n before + r)
+    (λ e. let here = rw (← e) at more in omega (arith, held-mono (suc b) n before after (λ m low high. h m (λ q. omega arith))))
+    (λ e. omega (arith, h b e, held-but-one (suc b) n x r before after h more))

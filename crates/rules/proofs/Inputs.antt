@@ -1,19 +1,19 @@
 -- What stands in an input, and below it, never grows by fills and takes.
-use Prim.Native.Nat.{ℕ, zero, suc, _+_, _-_, _≤_, _<_}
+use Prim.Native.Nat.{ℕ, _+_, _-_, _≤_}
 use mathlib.Core.Path.{_≡_, refl, sym, ap, _∙_}
-use mathlib.Core.List.{List, [], _∷_, _++_}
+use mathlib.Core.List.{List}
 use native.Mathlib.Omega.{arith}
-use lib.ListN.{length, getD}
-use Rattle.rules.specs.Tree.{Buffers, Tree, exhausted, buffer, merger, entries}
+use lib.ListN.{length}
+use Rattle.rules.specs.Tree.{Buffers, Tree, merger}
 use Rattle.rules.specs.Merge.{Step, stop, move, mergeStep}
-use Rattle.rules.specs.Fill.{Filled, untouched, fill}
-use Rattle.rules.specs.Take.{heldIn, insertion, ready, takeOne, takes}
-use Rattle.rules.proofs.Numbers.{Stands, in-first, in-second, Among}
-use Rattle.rules.proofs.Contents.{Below, Contents, below, view, Refilled, refill, mergeInto, fillContents}
+use Rattle.rules.specs.Fill.{untouched, fill}
+use Rattle.rules.specs.Take.{heldIn, insertion, ready, takeOne}
+use Rattle.rules.proofs.Numbers.{Among}
+use Rattle.rules.proofs.Contents.{Below, Contents, below, view, Refilled, refill, fillContents}
 use Rattle.rules.proofs.Lens.{fill-seen}
-use Rattle.rules.proofs.Weight.{sumOf, sumOf-ones, weight, weightBelow, contents-pay, refill-pays}
+use Rattle.rules.proofs.Weight.{sumOf-ones, contents-pay}
 use Rattle.rules.proofs.Full.{heldBelow, held-seen, Pops, Fills, refill-keeps, run-keeps}
-use Rattle.rules.proofs.Takes.{Took, handContents, takeContents, Beside, seen, take-seen, ready-cases}
+use Rattle.rules.proofs.Takes.{Took, handContents, takeContents, Beside, take-seen, ready-cases}
 
 -- u is an input of a merger of t
 pub data Input (u : Tree) : Tree → Type 0 where
@@ -29,6 +29,7 @@ part the-second b = b .1
 part (within-first s) b = part s (b .0 .1)
 part (within-second s) b = part s (b .1 .1)
 
+-- as the buffers show it
 pub part-seen : {u t : Tree} (s : Input u t) (bs : Buffers) → part s (below t bs) ≡ view u bs
 unfolding part below
 part-seen the-first bs = refl
@@ -89,6 +90,7 @@ module _ (key : ℕ → ℕ) where
       let e = ap (λ (r : Refilled (Below t)). heldOf u (part s (r .contents .1))) (fill-seen key t (length bs) a bs refl) in
       omega (arith, e, held-part s bs, held-part s (fill key t bs .buffers), fill-input s (heldIn u bs) (view t bs) (omega (arith, held-part s bs)))
 
+  -- nor does a fill that is made only where A(1) is empty
   pub ready-fewer : {u t : Tree} → Input u t → (bs : Buffers) → Among t (length bs) → heldIn u (ready key t bs .buffers) ≤ heldIn u bs
   unfolding untouched
   ready-fewer {u} {t} s bs a = ready-cases key t bs (λ z. heldIn u (z .buffers) ≤ heldIn u bs) (omega arith) (fill-fewer s bs a)

@@ -1,5 +1,5 @@
 -- Merge steps in a row, and the joining of two runs: nothing is lost, lengths add up, ascending runs join to an ascending run.
-use Prim.Native.Nat.{ℕ, zero, suc, _+_, _-_, _*_, _≤_, _<_}
+use Prim.Native.Nat.{ℕ, zero, suc, _+_, _-_, _≤_}
 use mathlib.Core.Path.{_≡_, refl, sym, ap, _∙_}
 use mathlib.Core.List.{List, [], _∷_, _++_}
 use native.Mathlib.Omega.{arith}
@@ -7,11 +7,10 @@ use lib.ListN.{length, take, drop}
 use lib.Seq.{take-at, drop-at}
 use Rattle.rules.specs.Merge.{Step, stop, move, mergeStep, Merged, merged, join}
 use Rattle.rules.specs.Order.{lastKey}
-use Rattle.rules.proofs.Steps.{NotAbove, Stepped, stops, from-first, from-second, stepped}
+use Rattle.rules.proofs.Steps.{Stepped, stops, from-first, from-second, stepped}
 use Rattle.rules.proofs.Weight.{sumOf, sumOf-ones}
 use Rattle.rules.proofs.Full.{no-entries}
-use Rattle.rules.proofs.Ordered.{Ascends}
-use Rattle.rules.proofs.TakeOrder.{ascends-raise}
+use Rattle.rules.proofs.Ordered.{Ascends, ascends-raise}
 
 -- one step, and then the rest
 abbrev pub afterStep : (List ℕ → List ℕ → Merged) → Step → Merged
@@ -22,10 +21,6 @@ afterStep rest s =
     ]
 
 module _ (key : ℕ → ℕ) where
-  pub merged-step : (n : ℕ) (xs ys : List ℕ) → merged key (suc n) xs ys ≡ afterStep (merged key n) (mergeStep key xs ys)
-  unfolding merged
-  merged-step n xs ys = refl
-
   -- ---- sums
 
   module _ (w : ℕ → ℕ) where
@@ -58,6 +53,7 @@ module _ (key : ℕ → ℕ) where
   merged-long zero xs ys most = refl
   merged-long (suc n) xs ys most = step-long n (merged-long n) (stepped key xs ys) most
 
+  -- what was moved and what is left are as many as there were
   pub merged-rest : (n : ℕ) (xs ys : List ℕ) → let z = merged key n xs ys in length (z .out) + (length (z .one) + length (z .two)) ≡ length xs + length ys
   merged-rest n xs ys =
       let z = merged key n xs ys in
@@ -72,6 +68,7 @@ module _ (key : ℕ → ℕ) where
       let r = merged-rest n xs ys in
       (no-entries (z .one) (omega arith), no-entries (z .two) (omega arith))
 
+  -- a join loses nothing
   pub join-keeps : (w : ℕ → ℕ) (xs ys : List ℕ) → sumOf w (join key xs ys) ≡ sumOf w xs + sumOf w ys
   unfolding join
   join-keeps w xs ys =
@@ -79,6 +76,7 @@ module _ (key : ℕ → ℕ) where
       let e = join-ends xs ys in
       omega (arith, merged-keeps w n xs ys, ap (sumOf w) (e .0), ap (sumOf w) (e .1))
 
+  -- it is as long as both runs together
   pub join-long : (xs ys : List ℕ) → length (join key xs ys) ≡ length xs + length ys
   unfolding join
   join-long xs ys = merged-long (length xs + length ys) xs ys (omega arith)
@@ -120,11 +118,13 @@ module _ (key : ℕ → ℕ) where
     pub join-take : take n (join key xs ys) ≡ merged key n xs ys .out
     join-take = rw join-split (take-at (merged key n xs ys .out) (join key (merged key n xs ys .one) (merged key n xs ys .two)) n (merged-long n xs ys most))
 
+    -- those behind the first n
     pub join-drop : drop n (join key xs ys) ≡ join key (merged key n xs ys .one) (merged key n xs ys .two)
     join-drop = rw join-split (drop-at (merged key n xs ys .out) (join key (merged key n xs ys .one) (merged key n xs ys .two)) n (merged-long n xs ys most))
 
   -- ---- order
 
+  -- what was moved ascends, and what is left goes on from there
   pub record MergedInOrder (low : ℕ) (z : Merged) : Type 0 where
     pub out : Ascends key low (z .out)
     pub one : Ascends key (lastKey key low (z .out)) (z .one)
@@ -147,6 +147,7 @@ module _ (key : ℕ → ℕ) where
   merged-ascends zero low xs ys p q = record { out = tt; one = p; two = q }
   merged-ascends (suc n) low xs ys p q = step-ascends (merged key n) (merged-ascends n) low (stepped key xs ys) p q
 
+  -- two ascending runs join to one
   pub join-ascends : (low : ℕ) (xs ys : List ℕ) → Ascends key low xs → Ascends key low ys → Ascends key low (join key xs ys)
   unfolding join
   join-ascends low xs ys p q = merged-ascends (length xs + length ys) low xs ys p q .out

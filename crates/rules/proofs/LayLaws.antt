@@ -1,15 +1,14 @@
 -- Laying a run along a way: nothing is lost, what it changes in the account, and that it keeps the order.
 use Prim.Native.Nat.{ℕ, zero, suc, _+_, _-_, _*_, _≤_, _<_}
-use mathlib.Core.Path.{_≡_, refl, sym, ap, _∙_}
-use mathlib.Core.Bool.{Bool, true, false}
+use mathlib.Core.Path.{_≡_, refl, ap, _∙_}
 use mathlib.Core.List.{List, [], _∷_, _++_}
 use native.Mathlib.Omega.{arith}
-use lib.ListN.{length, getD, take, drop, length-append, length-drop}
+use lib.ListN.{length, take, drop, length-append, length-drop}
 use lib.Seq.{length-take-le}
 use lib.Dec.{leb}
-use Rattle.rules.specs.Tree.{Buffers, Tree, exhausted, buffer, merger, entries}
+use Rattle.rules.specs.Tree.{Tree}
 use Rattle.rules.specs.Order.{lastKey}
-use Rattle.rules.proofs.Contents.{Below, Contents, below, view}
+use Rattle.rules.proofs.Contents.{Contents}
 use Rattle.rules.proofs.Weight.{sumOf, sumOf-append, sumOf-same, weightBelow, weight, oneIf}
 use Rattle.rules.proofs.Ordered.{Ascends, ascends-from, Ordered, ordered-from}
 use Rattle.rules.proofs.TakeOrder.{ascends-append}
@@ -18,6 +17,7 @@ use Rattle.rules.proofs.Paths.{Way, end, by-first, by-second, along, la
 
 -- ---- nothing is lost
 
+-- a run in two pieces
 pub sumOf-split : (w : ℕ → ℕ) (n : ℕ) (es : List ℕ) → sumOf w (take n es) + sumOf w (drop n es) ≡ sumOf w es
 sumOf-split w zero es = omega arith
 sumOf-split w (suc n) [] = omega arith
@@ -43,8 +43,16 @@ owedOn end d z = d * length (z .0)
 owedOn (by-first w) d z = d * length (z .0) + owedOn w (suc d) (z .1 .0)
 owedOn (by-second w) d z = d * length (z .0) + owedOn w (suc d) (z .1 .1)
 
+-- each entry owes its depth
 abbrev pub depth : ℕ → ℕ → ℕ
 depth d e = d
+
+-- a buffer that is refilled to its noted count owes what it owed
+take-owed : (d : ℕ) (noted run : List ℕ) → length noted ≤ length run → sumOf (λ e. d) (take (length noted) run) ≡ d * length noted
+take-owed d noted run enough = sumOf-same d (take (length noted) run) ∙ ap (λ n. d * n) (length-take-le (length noted) run enough)
+
+one-deeper : (d n x : ℕ) → (suc d + n) * x ≡ (d + suc n) * x
+one-deeper d n x = let e : suc d + n ≡ d + suc n = omega arith in rw e
 
 -- a run that is x longer than what was noted: the last buffer of the way gets x more
 pub lay-owed : {t : Tree} {n : ℕ} {ns : List ℕ} (w : Way t n ns) (d : ℕ) (noted : Contents t) (run : List ℕ) (z : Contents t) (x : ℕ) → length run ≡ length (along w noted) + x
@@ -57,20 +65,12 @@ lay-owed (by-first {ns = ns} w) d noted run z x long =
     let c = length (noted .0) in
     let a = length-append (noted .0) (along w (noted .1 .0)) in
     let l = length-drop c run in
-    let s : length (take c run) ≡ c = length-take-le c run (omega arith) in
-    let e : d * length (take c run) ≡ d * c = ap (λ n. d * n) s in
-    let p : suc d + length ns ≡ d + suc (length ns) = omega arith in
-    let h = rw p at (lay-owed w (suc d) (noted .1 .0) (drop c run) (z .1 .0) x (omega arith)) in
-    omega (arith, sumOf-same d (take c run), sumOf-same d (z .0))
+    omega (arith, take-owed d (noted .0) run (omega arith), sumOf-same d (z .0), one-deeper d (length ns) x, lay-owed w (suc d) (noted .1 .0) (drop c run) (z .1 .0) x (omega arith))
 lay-owed (by-second {ns = ns} w) d noted run z x long =
     let c = length (noted .0) in
     let a = length-append (noted .0) (along w (noted .1 .1)) in
     let l = length-drop c run in
-    let s : length (take c run) ≡ c = length-take-le c run (omega arith) in
-    let e : d * length (take c run) ≡ d * c = ap (λ n. d * n) s in
-    let p : suc d + length ns ≡ d + suc (length ns) = omega arith in
-    let h = rw p at (lay-owed w (suc d) (noted .1 .1) (drop c run) (z .1 .1) x (omega arith)) in
-    omega (arith, sumOf-same d (take c run), sumOf-same d (z .0))
+    omega (arith, take-owed d (noted .0) run (omega arith), sumOf-same d (z .0), one-deeper d (length ns) x, lay-owed w (suc d) (noted .1 .1) (drop c run) (z .1 .1) x (omega arith))
 
 -- ---- order
 
@@ -128,11 +128,13 @@ module _ (key : ℕ → ℕ) where
   no-later-last l (x ∷ xs) [] h = absurd h
   no-later-last l (x ∷ xs) (r ∷ run) h = no-later-last (h .0) xs run (h .1)
 
+  -- the front of an ascending run ascends
   pub ascends-take : (low n : ℕ) (es : List ℕ) → Ascends key low es → Ascends key low (take n es)
   ascends-take low zero es h = tt
   ascends-take low (suc n) [] h = tt
   ascends-take low (suc n) (e ∷ es) h = (h .0, ascends-take (key e) n es (h .1))
 
+  -- and what is behind goes on from its last key
   pub ascends-drop : (low n : ℕ) (es : List ℕ) → Ascends key low es → Ascends key (lastKey key low (take n es)) (drop n es)
   unfolding lastKey
   ascends-drop low zero es h = h
@@ -157,12 +159,6 @@ module _ (key : ℕ → ℕ) where
   BesideWay end before z = Unit {0}
   BesideWay (by-first {two = two} w) before z = ((low : ℕ) → Ordered key two low (before .1 .1) → Ordered key two low (z .1 .1)) × BesideWay w (before .1 .0) (z .1 .0)
   BesideWay (by-second {one = one} w) before z = ((low : ℕ) → Ordered key one low (before .1 .0) → Ordered key one low (z .1 .0)) × BesideWay w (before .1 .1) (z .1 .1)
-
-  pub beside-same : {t : Tree} {n : ℕ} {ns : List ℕ} (w : Way t n ns) (z : Contents t) → BesideWay w z z
-  unfolding BesideWay
-  beside-same end z = tt
-  beside-same (by-first w) z = (λ low h. h, beside-same w (z .1 .0))
-  beside-same (by-second w) z = (λ low h. h, beside-same w (z .1 .1))
 
   -- a run laid along a way, no later than what stood along it, keeps the order
   pub lay-ordered : {t : Tree} {n : ℕ} {ns : List ℕ} (w : Way t n ns) {low low′ : ℕ} → low ≤ low′ → (before : Contents t) (run : List ℕ) (z : Contents t)

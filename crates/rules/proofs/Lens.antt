@@ -1,17 +1,17 @@
 -- The joining theorem: a fill of the buffers, seen through the tree, is the fill of what stands in the tree.
-use Prim.Native.Nat.{ℕ, zero, suc, _+_, _-_, _<_}
+use Prim.Native.Nat.{ℕ, zero, suc, _+_, _-_}
 use mathlib.Core.Path.{_≡_, refl, sym, ap, _∙_}
 use mathlib.Core.List.{List, [], _∷_, _++_}
 use native.Mathlib.Omega.{arith}
 use lib.ListN.{length, getD, set, length-set}
-use lib.Seq.{getD-set-same, getD-set-other}
+use lib.Seq.{getD-set-same}
 use Rattle.rules.specs.Tree.{Buffers, Tree, exhausted, buffer, merger, entries, put}
-use Rattle.rules.specs.Merge.{Step, stop, move, mergeStep}
-use Rattle.rules.specs.Fill.{Filled, untouched, ifEmpty, moveUp, stepAnd, fillRoom, fill}
+use Rattle.rules.specs.Merge.{Step, move, mergeStep}
+use Rattle.rules.specs.Fill.{Filled, ifEmpty, moveUp, stepAnd, fillRoom, fill}
 use Rattle.rules.proofs.Steps.{Stepped, stops, from-first, from-second, stepped}
-use Rattle.rules.proofs.Numbers.{Stands, itself, output, in-first, in-second, apart-back, Joint, Among, joint, among-first, among-second}
+use Rattle.rules.proofs.Numbers.{itself, output, apart-back, Among, joint, among-first, among-second}
 use Rattle.rules.proofs.Contents.{Below, Contents, below, view, Refilled, Run, moreSteps, refill, stepThen, mergeInto, fillContents}
-use Rattle.rules.proofs.Frame.{Frame, frame-put, Framed, ifEmpty-frame, fill-frame, view-apart, view-set}
+use Rattle.rules.proofs.Frame.{frame-put, Framed, ifEmpty-frame, fill-frame, view-apart, view-set}
 
 -- ---- putting other entries at the top
 
@@ -21,12 +21,14 @@ CanHold exhausted es = es ≡ []
 CanHold (buffer n c) es = Unit {0}
 CanHold (merger n c one two) es = Unit {0}
 
+-- what stands at the top can stand there
 pub can-hold : (t : Tree) (bs : Buffers) {es : List ℕ} → entries t bs ≡ es → CanHold t es
 unfolding entries
 can-hold exhausted bs e = sym e
 can-hold (buffer n c) bs e = tt
 can-hold (merger n c one two) bs e = tt
 
+-- and what is left of it when its head leaves
 pub can-hold-rest : (t : Tree) (bs : Buffers) {e : ℕ} {es : List ℕ} → entries t bs ≡ e ∷ es → CanHold t es
 unfolding entries
 can-hold-rest exhausted bs q = let z : _≡_ {A = ℕ} 0 1 = cc in absurd (omega arith)
@@ -96,6 +98,7 @@ module _ (key : ℕ → ℕ) (n c : ℕ) (one two : Tree) (count : ℕ) (among :
 abbrev pub ShowsFill : (t : Tree) → ℕ → (Buffers → Filled) → (Contents t → Refilled (Below t)) → Type 0
 ShowsFill t count f g = (bs : Buffers) → length bs ≡ count → _≡_ {A = Refilled (Below t)} (record { contents = view t (f bs .buffers); steps = f bs .steps }) (g (view t bs))
 
+-- a fill that is made only where the input is empty, seen from the input
 pub refill-seen : (t : Tree) (count : ℕ) (f : Buffers → Filled) (g : Contents t → Refilled (Below t)) → ShowsFill t count f g
     → (bs : Buffers) → length bs ≡ count → (es : List ℕ) → entries t bs ≡ es
     → _≡_ {A = Refilled (Below t)} (record { contents = view t (ifEmpty f es bs .buffers); steps = ifEmpty f es bs .steps }) (refill g es (below t bs))

@@ -1,26 +1,29 @@
 -- The numbers of a queue's buffers: in the tree of so many links each stands once, and together they are all from the first link's first to the last link's last.
 use Prim.Native.Nat.{ℕ, zero, suc, _+_, _-_, _*_, _^_, _≤_, _<_}
-use mathlib.Core.Path.{_≡_, refl, sym, ap, _∙_}
-use mathlib.Core.List.{List, [], _∷_, _++_}
+use mathlib.Core.Path.{_≡_, refl}
+use mathlib.Core.List.{List, [], _∷_}
 use native.Mathlib.Omega.{arith}
 use native.Mathlib.Nat.{two-pow-succ, mul-assoc, mul-add}
 use lib.ListN.{length}
-use Rattle.rules.specs.Links.{s, k, height, levels, capacity, first, bufferCount, numberOfS}
-use Rattle.rules.specs.Tree.{Buffers, Tree, exhausted, buffer, merger, perfect, kMerger, linksFrom, treeOf}
-use Rattle.rules.proofs.Numbers.{Stands, itself, output, in-first, in-second, Outside, Apart, Joint, Distinct, nothing, alone, joined, Among}
+use Rattle.rules.specs.Links.{s, k, height, levels, first, bufferCount, numberOfS}
+use Rattle.rules.specs.Tree.{perfect, kMerger, linksFrom, treeOf}
+use Rattle.rules.proofs.Numbers.{Stands, itself, output, in-first, in-second, Outside, Joint, Distinct, nothing, alone, joined, Among}
 use Rattle.rules.proofs.Full as full
-use Rattle.rules.proofs.Sizes.{by-leb, s-next, k-power, k-some, length-levels, AllSome, a-some, levels-some, first-next, first-some, first-further}
+use Rattle.rules.proofs.Sizes.{by-leb, k-power, k-some, length-levels, AllSome, a-some, levels-some, first-next, first-some, first-further}
 
 -- ---- doubling: the numbers so many levels below j begin with j doubled so often
 
+-- n, doubled so often
 abbrev pub doubled : ℕ → ℕ → ℕ
 doubled zero n = n
 doubled (suc d) n = doubled d (2 * n)
 
+-- the larger, doubled, is the larger
 pub doubled-mono : (d a b : ℕ) → a ≤ b → doubled d a ≤ doubled d b
 doubled-mono zero a b h = h
 doubled-mono (suc d) a b h = doubled-mono d (2 * a) (2 * b) (omega arith)
 
+-- nothing gets smaller by doubling
 pub doubled-grows : (d a : ℕ) → a ≤ doubled d a
 doubled-grows zero a = omega arith
 doubled-grows (suc d) a = omega (arith, doubled-grows d (2 * a))
@@ -30,6 +33,7 @@ doubled-more zero e a h = doubled-grows e a
 doubled-more (suc d) zero a h = absurd (omega arith)
 doubled-more (suc d) (suc e) a h = doubled-more d e (2 * a) (omega arith)
 
+-- doubling d times is multiplying by 2 ^ d
 pub doubled-power : (d n : ℕ) → doubled d n ≡ n * 2 ^ d
 doubled-power zero n = omega arith
 doubled-power (suc d) n = rw two-pow-succ (omega (arith, doubled-power d (2 * n), mul-assoc 2 n (2 ^ d), mul-add n (2 ^ d) (2 ^ d)))
@@ -66,6 +70,7 @@ disjoint (suc d) zero lo hi lo′ hi′ y a b p q r t = omega (arith, doubled-gr
 disjoint (suc d) (suc d′) lo hi lo′ hi′ y a b p q r t = disjoint d d′ (2 * lo) (2 * hi) (2 * lo′) (2 * hi′) y (omega arith) (omega arith) p q r t
 
 module _ (a size : ℕ) where
+  -- where a buffer of a perfect tree stands
   pub record Spot (j deepest m : ℕ) : Type 0 where
     pub place : ℕ
     pub is : m ≡ a + place
@@ -152,6 +157,7 @@ module _ (i : ℕ) (link : 0 < i) where
   unfolding kMerger
   kMerger-range st = let r = perfect-range (first i) (s i) (levels i) 1 (omega arith) st in (r .0, omega (arith, r .1, ends))
 
+  -- and each of these numbers stands in it
   pub kMerger-stands : {m : ℕ} → first i < m → m < first (suc i) → Stands m (kMerger i)
   unfolding kMerger
   kMerger-stands {m} low high =
@@ -159,10 +165,12 @@ module _ (i : ℕ) (link : 0 < i) where
       let e : first i + (m - first i) ≡ m = omega arith in
       rw e at (perfect-stands (first i) (s i) (levels i) 1 (u .depth) (m - first i) (rw (length-levels i link) (u .deep)) (u .low) (u .high))
 
+  -- each once
   pub kMerger-distinct : Distinct (kMerger i)
   unfolding kMerger
   kMerger-distinct = perfect-distinct (first i) (s i) (levels i) 1 (omega arith)
 
+  -- every merger's output has room
   pub kMerger-roomy : full.Roomy (kMerger i)
   unfolding kMerger
   kMerger-roomy = perfect-roomy (first i) (s i) (levels i) 1 (levels-some i link)
@@ -208,12 +216,14 @@ unfolding linksFrom
 links-roomy i zero link = full.nothing
 links-roomy i (suc n) link = full.over (a-some i) (kMerger-roomy i link) (links-roomy (suc i) n (omega arith))
 
+-- so many links are among as many buffers as reach to their end
 pub links-among : (i n count : ℕ) → 0 < i → first (i + n) ≤ count → Among (linksFrom i n) count
 links-among i n count link h = record { distinct = links-distinct i n link; less = λ m st. omega (arith, links-range i n link st .1) }
 
 -- ---- the tree of a queue
 
 module _ (links : ℕ) where
+  -- the buffers of a queue end where the next link would begin
   pub count-is : bufferCount links ≡ first (1 + links)
   unfolding bufferCount
   count-is = let e : 1 + links ≡ suc links = omega arith in rw e
@@ -225,17 +235,21 @@ module _ (links : ℕ) where
       let r = links-range 1 links (omega arith) st in
       (omega (arith, r .0, first-some 1 (omega arith)), omega (arith, r .1, count-is))
 
+  -- each number behind I's stands in the tree
   pub tree-stands : {m : ℕ} → 0 < m → m < bufferCount links → Stands m (treeOf links)
   unfolding treeOf first
   tree-stands low high = links-stand 1 links (omega arith) low (omega (arith, count-is))
 
+  -- "I stands outside the tree."
   pub insertion-outside : Outside 0 (treeOf links)
   insertion-outside st = omega (arith, tree-range st .0)
 
+  -- the tree of a queue is among its buffers
   pub tree-among : {count : ℕ} → bufferCount links ≤ count → Among (treeOf links) count
   unfolding treeOf
   tree-among {count} h = links-among 1 links count (omega arith) (omega (arith, count-is))
 
+  -- every merger's output in it has room
   pub tree-roomy : full.Roomy (treeOf links)
   unfolding treeOf
   tree-roomy = links-roomy 1 links (omega arith)

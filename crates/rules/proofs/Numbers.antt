@@ -1,8 +1,6 @@
 -- The numbers that stand in a tree: all different, and below the number of buffers.
-use Prim.Native.Nat.{ℕ, _≤_, _<_}
-use mathlib.Core.List.{List}
-use lib.ListN.{length}
-use Rattle.rules.specs.Tree.{Buffers, Tree, exhausted, buffer, merger}
+use Prim.Native.Nat.{ℕ, _<_}
+use Rattle.rules.specs.Tree.{Tree, exhausted, buffer, merger}
 
 -- the buffer with number m stands in the tree
 pub data Stands (m : ℕ) : Tree → Type 0 where
@@ -11,6 +9,7 @@ pub data Stands (m : ℕ) : Tree → Type 0 where
   in-first : {n c : ℕ} {one two : Tree} → Stands m one → Stands m (merger n c one two)
   in-second : {n c : ℕ} {one two : Tree} → Stands m two → Stands m (merger n c one two)
 
+-- it does not
 abbrev pub Outside : ℕ → Tree → Type 0
 Outside m t = Stands m t → ⊥
 
@@ -18,9 +17,11 @@ Outside m t = Stands m t → ⊥
 abbrev pub Apart : Tree → Tree → Type 0
 Apart one two = (m : ℕ) → Stands m one → Stands m two → ⊥
 
+-- either way round
 pub apart-back : {one two : Tree} → Apart one two → Apart two one
 apart-back apart m s t = apart m t s
 
+-- a merger's output and its two inputs have no buffer in common
 pub record Joint (n : ℕ) (one two : Tree) : Type 0 where
   pub out-one : Outside n one
   pub out-two : Outside n two
@@ -52,8 +53,10 @@ module _ {n c : ℕ} {one two : Tree} where
     pub joint : Joint n one two
     joint = joint-of (a .distinct)
 
+    -- what is among so many, its first input is too
     pub among-first : Among one count
     among-first = record { distinct = first-of (a .distinct); less = λ m s. a .less m (in-first s) }
 
+    -- and its second
     pub among-second : Among two count
     among-second = record { distinct = second-of (a .distinct); less = λ m s. a .less m (in-second s) }

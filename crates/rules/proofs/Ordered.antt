@@ -1,15 +1,15 @@
 -- A fill keeps the order rule.
-use Prim.Native.Nat.{ℕ, zero, suc, _+_, _-_, _≤_, _<_}
-use mathlib.Core.Path.{_≡_, refl, sym, ap, _∙_, subst}
-use mathlib.Core.Bool.{Bool, true, false}
+use Prim.Native.Nat.{ℕ, zero, suc, _+_, _-_, _≤_}
+use mathlib.Core.Path.{_≡_, refl, sym, subst}
 use mathlib.Core.List.{List, [], _∷_, _++_}
 use native.Mathlib.Omega.{arith}
 use lib.ListN.{length, getD}
 use lib.Dec.{T, leb, leb→le, le→leb}
 use Rattle.rules.specs.Tests.{_and_}
 use Rattle.rules.specs.Tree.{Buffers, Tree, exhausted, buffer, merger, entries}
-use Rattle.rules.specs.Merge.{Step, stop, move, mergeStep}
-use Rattle.rules.specs.Fill.{Filled, fill}
+use Rattle.rules.specs.Merge.{Step}
+use Rattle.rules.specs.Fill.{fill}
+use Rattle.rules.specs.Take.{heldIn}
 use Rattle.rules.specs.Order.{ascends, lastKey, ordered}
 use Rattle.rules.proofs.Table.{and-one, and-two}
 use Rattle.rules.proofs.Tests.{and-both}
@@ -17,8 +17,8 @@ use Rattle.rules.proofs.Steps.{NotAbove, Stepped, stops, from-first, fr
 use Rattle.rules.proofs.Numbers.{Among}
 use Rattle.rules.proofs.Contents.{Below, Contents, below, view, Refilled, Run, moreSteps, refill, stepThen, mergeInto, fillContents}
 use Rattle.rules.proofs.Lens.{fill-seen}
-use Rattle.rules.proofs.Weight.{sumOf, sumOf-ones, weightBelow}
-use Rattle.rules.proofs.Full.{Roomy, nothing, alone, over, heldBelow, Drains, refill-drains, contents-drain, no-entries, Fills, refill-keeps}
+use Rattle.rules.proofs.Weight.{sumOf-ones, weightBelow}
+use Rattle.rules.proofs.Full.{held-seen, Roomy, nothing, alone, over, heldBelow, Drains, refill-drains, contents-drain, Fills, refill-keeps}
 
 module _ (key : ℕ → ℕ) where
   -- ---- ascending runs
@@ -28,27 +28,37 @@ module _ (key : ℕ → ℕ) where
   Ascends low [] = Unit {0}
   Ascends low (e ∷ es) = (low ≤ key e) × Ascends (key e) es
 
+  -- what the test says
   pub ascends-says : (low : ℕ) (es : List ℕ) → T (ascends key low es) → Ascends low es
   unfolding ascends
   ascends-says low [] t = tt
   ascends-says low (e ∷ es) t =
       (leb→le low (key e) (and-one (leb low (key e)) (ascends key (key e) es) t), ascends-says (key e) es (and-two (leb low (key e)) (ascends key (key e) es) t))
 
+  -- and where it holds the test passes
   pub says-ascends : (low : ℕ) (es : List ℕ) → Ascends low es → T (ascends key low es)
   unfolding ascends
   says-ascends low [] h = tt
   says-ascends low (e ∷ es) h = and-both (leb low (key e)) (ascends key (key e) es) (le→leb low (key e) (h .0)) (says-ascends (key e) es (h .1))
 
+  -- the last key of a run with one more entry at its end
   pub lastKey-snoc : (low : ℕ) (es : List ℕ) (e : ℕ) → lastKey key low (es ++ e ∷ []) ≡ key e
   unfolding lastKey
   lastKey-snoc low [] e = refl
   lastKey-snoc low (x ∷ es) e = lastKey-snoc (key x) es e
 
+  -- an entry at the end that is no smaller than the last
   pub ascends-snoc : (low : ℕ) (es : List ℕ) (e : ℕ) → Ascends low es → lastKey key low es ≤ key e → Ascends low (es ++ e ∷ [])
   unfolding lastKey
   ascends-snoc low [] e h b = (b, tt)
   ascends-snoc low (x ∷ es) e h b = (h .0, ascends-snoc (key x) es e (h .1) b)
 
+  -- a run whose head has no smaller key than e ascends from e's key on
+  pub ascends-raise : (e low : ℕ) (xs : List ℕ) → NotAbove key e xs → Ascends low xs → Ascends (key e) xs
+  ascends-raise e low [] l h = tt
+  ascends-raise e low (x ∷ xs) l h = (l, h .1)
+
+  -- a run that ascends from a key on does so from any smaller key on
   pub ascends-from : {low low′ : ℕ} → low′ ≤ low → (es : List ℕ) → Ascends low es → Ascends low′ es
   ascends-from l [] h = tt
   ascends-from l (e ∷ es) h = (omega (arith, h .0), h .1)
@@ -62,9 +72,11 @@ module _ (key : ℕ → ℕ) where
   OrderedBelow (merger n c one two) low b =
       (Ascends low (b .0 .0) × OrderedBelow one (lastKey key low (b .0 .0)) (b .0 .1)) × (Ascends low (b .1 .0) × OrderedBelow two (lastKey key low (b .1 .0)) (b .1 .1))
 
+  -- the order rule in a whole tree, from the key `low` on
   abbrev pub Ordered : (t : Tree) → ℕ → Contents t → Type 0
   Ordered t low z = Ascends low (z .0) × OrderedBelow t (lastKey key low (z .0)) (z .1)
 
+  -- what the test of the order rule says
   pub ordered-says : (t : Tree) (low : ℕ) (bs : Buffers) → T (ordered key t low bs) → Ordered t low (view t bs)
   unfolding ordered entries below
   ordered-says exhausted low bs h = (tt, tt)
@@ -77,6 +89,7 @@ module _ (key : ℕ → ℕ) where
         (ordered-says one last bs (and-one (ordered key one last bs) (ordered key two last bs) rest), ordered-says two last bs (and-two (ordered key one last bs) (ordered key two last bs) rest)),
       )
 
+  -- and where it holds the test passes
   pub says-ordered : (t : Tree) (low : ℕ) (bs : Buffers) → Ordered t low (view t bs) → T (ordered key t low bs)
   unfolding ordered entries below
   says-ordered exhausted low bs h = tt
@@ -87,6 +100,7 @@ module _ (key : ℕ → ℕ) where
       and-both (ascends key low es) (ordered key one last bs and ordered key two last bs) (says-ascends low es (h .0))
       (and-both (ordered key one last bs) (ordered key two last bs) (says-ordered one last bs (h .1 .0)) (says-ordered two last bs (h .1 .1)))
 
+  -- from a smaller key on the last key is no larger
   pub lastKey-from : {low low′ : ℕ} → low′ ≤ low → (es : List ℕ) → lastKey key low′ es ≤ lastKey key low es
   unfolding lastKey
   lastKey-from l [] = l
@@ -120,6 +134,12 @@ module _ (key : ℕ → ℕ) where
         (none-ascends low (b .1 .0) (omega arith), none-ordered two (suc d) (lastKey key low (b .1 .0)) (b .1 .1) (omega arith)),
       )
 
+  -- a tree with nothing in it is in order
+  pub none-all-ordered : (t : Tree) (low : ℕ) (bs : Buffers) → heldIn t bs ≡ 0 → Ordered t low (view t bs)
+  none-all-ordered t low bs h =
+      let e = held-seen t 0 bs in
+      (none-ascends low (entries t bs) (omega arith), none-ordered t 0 (lastKey key low (entries t bs)) (below t bs) (omega arith))
+
   -- ---- a run of merge steps keeps the order
 
   -- an input, what stands below which keeps P
@@ -135,6 +155,7 @@ module _ (key : ℕ → ℕ) where
 
   module _ {A B : Type 0} (P : ℕ → A → Type 0) (Q : ℕ → B → Type 0) (ha : A → ℕ) (hb : B → ℕ)
       (free-one : (low : ℕ) (a : A) → ha a ≡ 0 → P low a) (free-two : (low : ℕ) (b : B) → hb b ≡ 0 → Q low b) (low : ℕ) where
+    -- the output ascends, and the inputs go on from its last key
     pub record InOrder (z : Run A B) : Type 0 where
       pub out : Ascends low (z .out)
       pub one : From P (lastKey key low (z .out)) (z .one)
@@ -172,6 +193,7 @@ module _ (key : ℕ → ℕ) where
         (stepped key (a .contents .0) (b .contents .0)) (refill-drains ha f df (one .0) (one .1)) (refill-drains hb g dg (two .0) (two .1))
         asc (refill-keeps (From P last) f (kf last) (one .0) (one .1) p) (refill-keeps (From Q last) g (kg last) (two .0) (two .1) q)
 
+  -- a fill of contents keeps the order
   pub contents-ordered : {t : Tree} → Roomy t → (low : ℕ) → Fills (Ordered t low) (fillContents key t)
   unfolding fillContents
   contents-ordered nothing low z h = h

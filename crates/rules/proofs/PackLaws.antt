@@ -1,13 +1,13 @@
 -- A packing: nothing is lost, its steps are all that was owed, and what it lays out is in order.
-use Prim.Native.Nat.{ℕ, zero, suc, _+_, _-_, _*_, _^_, _≤_, _<_}
-use mathlib.Core.Path.{_≡_, refl, sym, ap, _∙_, subst}
+use Prim.Native.Nat.{ℕ, zero, suc, _+_, _-_, _*_, _≤_, _<_}
+use mathlib.Core.Path.{_≡_, refl, sym, ap, _∙_}
 use mathlib.Core.List.{List, [], _∷_, _++_, append-assoc}
 use native.Mathlib.Omega.{arith}
 use native.Mathlib.Nat.{mul-add}
 use lib.ListN.{length, getD, take, drop, replicate, length-append, length-replicate, getD-replicate, length-drop, List·getD-append}
 use lib.Seq.{getD-append-seam, getD-append-add, drop-drop}
 use lib.Dec.{T}
-use Rattle.rules.specs.Links.{s, k, height, levels, capacity, first, numberOfS, bufferCount, most}
+use Rattle.rules.specs.Links.{s, k, height, levels, first, numberOfS, bufferCount, most}
 use Rattle.rules.specs.Tree.{Buffers, Tree, exhausted, buffer, merger, entries, perfect, kMerger, linksFrom, treeOf}
 use Rattle.rules.specs.Take.{Taken, insertion, heldIn, takeAll}
 use Rattle.rules.specs.Order.{ascends, lastKey, ordered, inOrder}
@@ -15,20 +15,21 @@ use Rattle.rules.specs.Sweep.{parts, laidOut}
 use Rattle.rules.proofs.Tests.{and-both}
 use Rattle.rules.proofs.Numbers.{Stands, itself, output, in-first, in-second}
 use Rattle.rules.proofs.Contents.{below, view}
-use Rattle.rules.proofs.Weight.{sumOf, sumOf-append, sumOf-ones, sumOf-same, weightIn, held-weight, owedIn}
+use Rattle.rules.proofs.Weight.{sumOf, sumOf-ones, sumOf-same, weightIn, held-weight, owedIn}
 use Rattle.rules.proofs.Full.{no-entries}
-use Rattle.rules.proofs.Ordered.{Ascends, ascends-from, says-ascends, Ordered, says-ordered}
+use Rattle.rules.proofs.Ordered.{Ascends, says-ascends, Ordered, says-ordered}
 use Rattle.rules.proofs.TakeLaws.{weightAll, takeAll-pays, none-weighs}
 use Rattle.rules.proofs.TakeOrder.{takeAll-ascends}
 use Rattle.rules.proofs.Takes.{Beside}
 use Rattle.rules.proofs.LayLaws.{sumOf-split, depth, ascends-take, ascends-behind}
-use Rattle.rules.proofs.Sizes.{by-leb, k-power, k-some, length-levels, first-one, first-next, first-some, first-further}
+use Rattle.rules.proofs.Sizes.{by-leb, k-power, k-some, length-levels, first-next, first-some, first-further}
 use Rattle.rules.proofs.Numbering.{doubled, doubled-grows, doubled-mono, doubled-power, count-is, links-range, tree-among, tree-roomy, insertion-outside}
 use Rattle.rules.proofs.Held.{weightFrom, tree-weight}
-use Rattle.rules.proofs.SweepLaws.{links-weight}
+use Rattle.rules.proofs.Along.{links-weight}
 
 -- ---- sums over a list of buffers
 
+-- what all buffers of a list weigh
 unfoldable pub sumAll : (ℕ → ℕ) → Buffers → ℕ
 sumAll g [] = 0
 sumAll g (b ∷ bs) = sumOf g b + sumAll g bs
@@ -67,11 +68,13 @@ module _ (g : ℕ → ℕ) where
 
 -- ---- what a packing lays out
 
+-- so many parts
 pub length-parts : (n size : ℕ) (run : List ℕ) → length (parts n size run) ≡ n
 unfolding parts
 length-parts zero size run = refl
 length-parts (suc n) size run = ap suc (length-parts n size (drop size run))
 
+-- the part with number j, from 0 on
 pub part-at : (n size : ℕ) (run : List ℕ) (j : ℕ) → j < n → getD (parts n size run) j [] ≡ take size (drop (j * size) run)
 unfolding parts
 part-at zero size run j h = absurd (omega arith)
@@ -84,7 +87,8 @@ module _ (links : ℕ) (some : 0 < links) (run : List ℕ) where
   abbrev laid : Buffers
   laid = laidOut links run
 
-  begins : numberOfS links 1 ≡ first links + k links
+  -- S(L,1) stands k(L) behind A(L)
+  pub begins : numberOfS links 1 ≡ first links + k links
   unfolding numberOfS
   begins = omega arith
 
@@ -92,6 +96,7 @@ module _ (links : ℕ) (some : 0 < links) (run : List ℕ) where
   unfolding bufferCount
   ends = omega (arith, begins, first-next links some)
 
+  -- as many buffers as the queue has
   pub laid-long : length laid ≡ bufferCount links
   unfolding laidOut
   laid-long = omega (arith, length-append (replicate (numberOfS links 1) []) (parts (k links) (s links) run), length-replicate {A = List ℕ} (numberOfS links 1) [], length-parts (k links) (s links) run, ends)
@@ -126,7 +131,8 @@ module _ (links : ℕ) (some : 0 < links) (run : List ℕ) where
           ap (sumOf g) none,
         )
 
-    laid-insertion : insertion laid ≡ []
+    -- I is empty
+    pub laid-insertion : insertion laid ≡ []
     unfolding insertion
     laid-insertion = laid-none 0 (omega (arith, first-some links some))
 
@@ -137,6 +143,7 @@ module _ (links : ℕ) (some : 0 < links) (run : List ℕ) where
 
 -- ---- every merger's output is empty
 
+-- no merger has anything in its output
 abbrev pub Hollow : Tree → Buffers → Type 0
 Hollow exhausted bs = Unit {0}
 Hollow (buffer n c) bs = Unit {0}
@@ -227,7 +234,7 @@ module _ (links : ℕ) (bs : Buffers) (none : (m : ℕ) → m < first links + k 
     last-split g d = omega (arith, ap (sumOf (g d)) (none (first links) (omega (arith, k-some links))))
 
     -- all entries stand below B(L)
-    packed-weight : (g : ℕ → ℕ → ℕ) → weightIn g (linksFrom 1 links) 0 bs ≡ weightIn g (kMerger links) links bs
+    pub packed-weight : (g : ℕ → ℕ → ℕ) → weightIn g (linksFrom 1 links) 0 bs ≡ weightIn g (kMerger links) links bs
     packed-weight g =
         let e : (links - 1) + 1 ≡ links = omega arith in
         let f : 1 + (links - 1) ≡ links = omega arith in
@@ -255,6 +262,7 @@ module _ (key : ℕ → ℕ) (links : ℕ) (some : 0 < links) (bs : Buffers) (ma
   abbrev after : Buffers
   after = laidOut links (taken .out)
 
+  -- the tree stands beside I
   pub pack-beside : Beside tree (length bs)
   unfolding bufferCount
   pack-beside = record { among = tree-among links many; outside = insertion-outside links; some = omega (arith, first-some (suc links) (omega arith)) }

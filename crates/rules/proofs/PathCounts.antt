@@ -1,23 +1,23 @@
 -- How many entries a refilled path leaves in each buffer; and what a sweep does to the counters.
-use Prim.Native.Nat.{ℕ, zero, suc, _+_, _-_, _*_, _/_, _≤_, _<_}
+use Prim.Native.Nat.{ℕ, zero, suc, _+_, _-_, _/_, _≤_, _<_}
 use mathlib.Core.Path.{_≡_, refl, sym, ap, _∙_}
 use mathlib.Core.Logic.{_≢_}
-use mathlib.Core.Bool.{Bool, true, false}
+use mathlib.Core.Bool.{true, false}
 use mathlib.Core.List.{List, [], _∷_, _++_, map, append-assoc, map-append}
 use native.Mathlib.Omega.{arith}
-use lib.ListN.{length, getD, set, take, drop, length-set, length-take, length-drop}
-use lib.Seq.{getD-set-same, getD-set-other, set-out}
-use lib.Dec.{leb, eqb}
+use lib.ListN.{length, getD, set, take, drop, length-append, length-set, length-take, length-drop}
+use lib.Seq.{getD-set-same, getD-set-other, set-out, length-take-le}
 use Rattle.rules.specs.Links.{k, height, first, numberOfS, sum}
 use Rattle.rules.specs.Tree.{Buffers, Tree}
 use Rattle.rules.specs.Sweep.{wayDown, pathInLink, outputs, path, counts, refillPath, raised}
 use Rattle.rules.specs.Insert.{lowest}
-use Rattle.rules.proofs.Numbers.{Stands, itself, output, in-first, in-second, Outside}
-use Rattle.rules.proofs.Sizes.{by-eqb, by-leb}
+use Rattle.rules.proofs.Numbers.{itself, output, in-first, in-second, Outside}
+use Rattle.rules.proofs.Sizes.{by-eqb, by-leb, k-some, first-next, first-mono}
 use Rattle.rules.proofs.Paths.{Way, end, by-first, by-second}
 
 -- ---- the end of a path
 
+-- the last number of a path
 unfoldable pub lastOf : List ℕ → ℕ
 lastOf [] = 0
 lastOf (n ∷ []) = n
@@ -39,6 +39,17 @@ path-ends i j =
     ap lastOf (ap (λ ns. outputs 1 (i - 1) ++ ns) (map-append f (wayDown (height i) (y / 2)) (y ∷ [])) ∙ sym (append-assoc (outputs 1 (i - 1)) (map f (wayDown (height i) (y / 2))) (f y ∷ [])))
     ∙ lastOf-snoc (outputs 1 (i - 1) ++ map f (wayDown (height i) (y / 2))) (f y) ∙ e
 
+-- not a number on the path
+abbrev pub NotOn : ℕ → List ℕ → Type 0
+NotOn m [] = Unit {0}
+NotOn m (n ∷ ns) = (m ≢ n) × NotOn m ns
+
+-- a number before all of these outputs is none of them
+before-outputs : (p a m : ℕ) → 0 < a → m < first a → NotOn m (outputs a p)
+unfolding outputs
+before-outputs zero a m link less = tt
+before-outputs (suc p) a m link less = (λ e. omega arith, before-outputs p (suc a) m (omega arith) (omega (arith, first-next a link)))
+
 -- ---- how many a refilled path leaves
 
 -- no buffer but the last has more than was noted, if none had before
@@ -53,6 +64,7 @@ set-no-more last n v before bs few h m other =
     (λ l. rw (set-out bs n v (omega arith)) (h m other)))
     (λ e. rw (getD-set-other bs n m v [] e) (h m other))
 
+-- so after a refill
 pub refill-no-more : (ns run : List ℕ) (before bs : Buffers) → NoMoreBut (lastOf ns) before bs → NoMoreBut (lastOf ns) before (refillPath ns (counts ns before) run bs)
 unfolding refillPath counts lastOf
 refill-no-more [] run before bs h = h
@@ -74,25 +86,57 @@ refill-last n (m ∷ ns) run before bs less enough =
 
 -- ---- what is not on a path stays
 
-abbrev pub NotOn : ℕ → List ℕ → Type 0
-NotOn m [] = Unit {0}
-NotOn m (n ∷ ns) = (m ≢ n) × NotOn m ns
-
+-- on neither of two paths, so not on both together
 pub not-on-append : (m : ℕ) (xs ys : List ℕ) → NotOn m xs → NotOn m ys → NotOn m (xs ++ ys)
 not-on-append m [] ys p q = q
 not-on-append m (x ∷ xs) ys p q = (p .0, not-on-append m xs ys (p .1) q)
 
+-- what stands outside a tree is on no way down it
 pub not-on-way : {t : Tree} {n : ℕ} {ns : List ℕ} → Way t n ns → (m : ℕ) → Outside m t → NotOn m (n ∷ ns)
 not-on-way end m out = (λ e. out (rw e itself), tt)
 not-on-way (by-first w) m out = (λ e. out (rw e output), not-on-way w m (λ st. out (in-first st)))
 not-on-way (by-second w) m out = (λ e. out (rw e output), not-on-way w m (λ st. out (in-second st)))
 
+-- a refilled path changes no other buffer
 pub refill-other : (ns noted run : List ℕ) (bs : Buffers) (m : ℕ) → NotOn m ns → getD (refillPath ns noted run bs) m [] ≡ getD bs m []
 unfolding refillPath
 refill-other [] noted run bs m h = refl
 refill-other (n ∷ []) noted run bs m h = getD-set-other bs n m run [] (h .0)
 refill-other (n ∷ l ∷ ns) [] run bs m h = refl
 refill-other (n ∷ l ∷ ns) (c ∷ noted) run bs m h = refill-other (l ∷ ns) noted (drop c run) (set bs n (take c run)) m (h .1) ∙ getD-set-other bs n m (take c run) [] (h .0)
+
+-- ---- the outputs before a path keep their counts
+
+refill-step : (n c : ℕ) (ns noted run : List ℕ) (bs : Buffers) → 0 < length ns → refillPath (n ∷ ns) (c ∷ noted) run bs ≡ refillPath ns noted (drop c run) (set bs n (take c run))
+unfolding refillPath
+refill-step n c [] noted run bs some = absurd (omega arith)
+refill-step n c (m ∷ ns) noted run bs some = refl
+
+-- where the run is long enough, each of these buffers has as many as was noted
+pub refill-outputs : (p a : ℕ) (ns run : List ℕ) (before bs : Buffers) → 0 < a → 0 < length ns → ((m : ℕ) → m < first (a + p) → NotOn m ns) → first (a + p) ≤ length bs
+    → sum (counts (outputs a p ++ ns) before) ≤ length run → counts (outputs a p) (refillPath (outputs a p ++ ns) (counts (outputs a p ++ ns) before) run bs) ≡ counts (outputs a p) before
+unfolding outputs counts sum
+refill-outputs zero a ns run before bs link some off many enough = refl
+refill-outputs (suc p) a ns run before bs link some off many enough =
+    let e : a + suc p ≡ suc a + p = omega arith in
+    let n = first a in
+    let c = length (getD before n []) in
+    let rest = outputs (suc a) p ++ ns in
+    let up = set bs n (take c run) in
+    let after = refillPath rest (counts rest before) (drop c run) up in
+    let l = length-drop c run in
+    let f = first-mono (suc a) (suc a + p) (omega arith) (omega arith) in
+    let g = first-next a link in
+    let some-k = k-some a in
+    let as-many = length-set bs n (take c run) in
+    let off′ : (m : ℕ) → m < first (suc a + p) → NotOn m ns = rw e at off in
+    let many′ : first (suc a + p) ≤ length up = rw length-set (rw e at many) in
+    let step : refillPath (n ∷ rest) (c ∷ counts rest before) run bs ≡ after = refill-step n c rest (counts rest before) run bs (omega (arith, length-append (outputs (suc a) p) ns)) in
+    let here : length (getD after n []) ≡ c =
+    ap length (refill-other rest (counts rest before) (drop c run) up n (not-on-append n (outputs (suc a) p) ns (before-outputs p (suc a) n (omega arith) (omega arith)) (off′ n (omega arith)))
+    ∙ getD-set-same bs n (take c run) [] (omega arith)) ∙ length-take-le c run (omega arith) in
+    let others = refill-outputs p (suc a) ns (drop c run) before up (omega arith) some off′ many′ (omega arith) in
+    ap (λ z. length (getD z n []) ∷ counts (outputs (suc a) p) z) step ∙ (λ i. here i ∷ others i)
 
 -- ---- counters
 
@@ -104,6 +148,7 @@ raised-long zero (c ∷ cs) = refl
 raised-long (suc zero) (c ∷ cs) = refl
 raised-long (suc (suc i)) (c ∷ cs) = ap suc (raised-long (suc i) cs)
 
+-- the counters before it become 1
 pub raised-before : (i : ℕ) (cs : List ℕ) (n : ℕ) → suc n < i → n < length cs → getD (raised i cs) n 0 ≡ 1
 unfolding raised
 raised-before i [] n h l = absurd (omega arith)
@@ -112,6 +157,7 @@ raised-before (suc zero) (c ∷ cs) n h l = absurd (omega arith)
 raised-before (suc (suc i)) (c ∷ cs) zero h l = refl
 raised-before (suc (suc i)) (c ∷ cs) (suc n) h l = raised-before (suc i) cs n (omega arith) (omega arith)
 
+-- its counter rises by one
 pub raised-at : (i : ℕ) (cs : List ℕ) (n : ℕ) → suc n ≡ i → n < length cs → getD (raised i cs) n 0 ≡ suc (getD cs n 0)
 unfolding raised
 raised-at i [] n h l = absurd (omega arith)
@@ -121,6 +167,7 @@ raised-at (suc zero) (c ∷ cs) (suc n) h l = absurd (omega arith)
 raised-at (suc (suc i)) (c ∷ cs) zero h l = absurd (omega arith)
 raised-at (suc (suc i)) (c ∷ cs) (suc n) h l = raised-at (suc i) cs n (omega arith) (omega arith)
 
+-- those behind stay
 pub raised-behind : (i : ℕ) (cs : List ℕ) (n : ℕ) → i ≤ n → getD (raised i cs) n 0 ≡ getD cs n 0
 unfolding raised
 raised-behind i [] n h = refl
@@ -155,6 +202,7 @@ lowest-later i c cs l h z = record { low = omega (arith, z .low); high = omega (
     others zero less = let e : i + 0 ≡ i = omega arith in rw e h
     others (suc n) less = let e : i + suc n ≡ suc i + n = omega arith in rw e (z .others n (omega arith))
 
+-- and that is what the rule finds
 pub lowest-is : (i : ℕ) (cs : List ℕ) → Lowest i cs (lowest i cs)
 unfolding lowest
 lowest-is i [] = record { low = omega arith; high = omega arith; has = λ n e less. absurd (omega arith); others = λ n less. absurd (omega arith) }

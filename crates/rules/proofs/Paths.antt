@@ -4,14 +4,13 @@ use mathlib.Core.Path.{_≡_, refl, sym, ap, _∙_, subst}
 use mathlib.Core.List.{List, [], _∷_, _++_, map, append-nil}
 use native.Mathlib.Omega.{arith}
 use native.Mathlib.Nat.{div-eq-of-lt, div-eq-of-lt-le, div-one, two-pow-succ, div-div-eq-div-mul, pow-succ', mul-comm}
-use lib.Pow.{pow-pos}
 use lib.ListN.{length, getD, set, take, drop, length-set}
-use lib.Seq.{getD-set-same, getD-set-other}
+use lib.Seq.{getD-set-same}
 use Rattle.rules.specs.Links.{s, k, height, levels, capacity, first}
-use Rattle.rules.specs.Tree.{Buffers, Tree, exhausted, buffer, merger, entries, perfect, kMerger, linksFrom, treeOf}
+use Rattle.rules.specs.Tree.{Buffers, Tree, buffer, merger, entries, perfect, kMerger, linksFrom}
 use Rattle.rules.specs.Sweep.{wayDown, pathInLink, outputs, path, counts, runAlong, refillPath}
-use Rattle.rules.proofs.Numbers.{Stands, itself, output, in-first, in-second, Outside, Apart, apart-back, Joint, Among, joint, among-first, among-second}
-use Rattle.rules.proofs.Contents.{Below, Contents, below, view}
+use Rattle.rules.proofs.Numbers.{itself, output, in-first, in-second, apart-back, Among, joint, among-first, among-second, Outside, Apart}
+use Rattle.rules.proofs.Contents.{Contents, below, view}
 use Rattle.rules.proofs.Frame.{Frame, frame-none, frame-then, frame-wider, frame-set, view-apart, view-set}
 use Rattle.rules.proofs.Sizes.{by-leb, k-power, length-levels}
 
@@ -22,12 +21,6 @@ pub data Way : Tree → ℕ → List ℕ → Type 0 where
   end : {n c : ℕ} → Way (buffer n c) n []
   by-first : {n c m : ℕ} {one two : Tree} {ns : List ℕ} → Way one m ns → Way (merger n c one two) n (m ∷ ns)
   by-second : {n c m : ℕ} {one two : Tree} {ns : List ℕ} → Way two m ns → Way (merger n c one two) n (m ∷ ns)
-
-pub way-top : {t : Tree} {n : ℕ} {ns : List ℕ} → Way t n ns → (bs : Buffers) → entries t bs ≡ getD bs n []
-unfolding entries
-way-top end bs = refl
-way-top (by-first w) bs = refl
-way-top (by-second w) bs = refl
 
 -- "the run read along the path", of contents
 unfoldable pub along : {t : Tree} {n : ℕ} {ns : List ℕ} → Way t n ns → Contents t → List ℕ
@@ -41,6 +34,7 @@ lay end noted run z = (run, tt)
 lay (by-first w) noted run z = let c = length (noted .0) in (take c run, (lay w (noted .1 .0) (drop c run) (z .1 .0), z .1 .1))
 lay (by-second w) noted run z = let c = length (noted .0) in (take c run, (z .1 .0, lay w (noted .1 .1) (drop c run) (z .1 .1)))
 
+-- as the buffers show it
 pub along-seen : {t : Tree} {n : ℕ} {ns : List ℕ} (w : Way t n ns) (bs : Buffers) → along w (view t bs) ≡ runAlong (n ∷ ns) bs
 unfolding along runAlong entries below
 along-seen (end {n = n}) bs = sym (append-nil (getD bs n []))
@@ -49,6 +43,7 @@ along-seen (by-second {n = n} w) bs = ap (λ l. getD bs n [] ++ l) (along-seen w
 
 -- ---- laying a run along a way
 
+-- a refilled path changes the buffers of its tree alone
 pub refill-frame : {t : Tree} {n : ℕ} {ns : List ℕ} → Way t n ns → (noted run : List ℕ) (bs : Buffers) → Frame t bs (refillPath (n ∷ ns) noted run bs)
 unfolding refillPath
 refill-frame (end {n = n}) noted run bs = frame-set n itself run bs
@@ -59,6 +54,15 @@ refill-frame (by-second w) [] run bs = frame-none bs
 refill-frame (by-second {n = n} w) (c ∷ noted) run bs =
     frame-then (frame-set n output (take c run) bs) (frame-wider (λ m. in-second) (refill-frame w noted (drop c run) (set bs n (take c run))))
 
+-- one step down: the output n gets its part, the input on the way what is laid into it, and the other input is not touched
+one-down : (n m c : ℕ) (ns noted run : List ℕ) (sub other : Tree) → Way sub m ns → (bs : Buffers) → Outside n sub → Outside n other → Apart other sub → n < length bs
+    → (f : Contents sub → Contents sub) → let up = set bs n (take c run) in let after = refillPath (m ∷ ns) noted (drop c run) up in
+    view sub after ≡ f (view sub up) → (getD after n [] ≡ take c run) × (view sub after ≡ f (view sub bs)) × (view other after ≡ view other bs)
+one-down n m c ns noted run sub other w bs out out-other apart less f e =
+    let v = take c run in
+    let fr = refill-frame w noted (drop c run) (set bs n v) in
+    (fr .same n out ∙ getD-set-same bs n v [] less, e ∙ ap f (view-set sub n out v bs), view-apart apart fr ∙ view-set other n out-other v bs)
+
 -- a refilled path, seen through the tree, is the run laid along the way
 pub lay-seen : {t : Tree} {n : ℕ} {ns : List ℕ} (w : Way t n ns) (before bs : Buffers) (run : List ℕ) → Among t (length bs)
     → view t (refillPath (n ∷ ns) (counts (n ∷ ns) before) run bs) ≡ lay w (view t before) run (view t bs)
@@ -66,22 +70,16 @@ unfolding refillPath counts lay entries below
 lay-seen (end {n = n}) before bs run a = ap (λ l. (l, tt)) (getD-set-same bs n run [] (a .less n itself))
 lay-seen (by-first {n = n} {m = m} {one = one} {two = two} {ns = ns} w) before bs run a =
     let c = length (getD before n []) in
-    let up = set bs n (take c run) in
-    let many : length up ≡ length bs = length-set bs n (take c run) in
-    let f = refill-frame w (counts (m ∷ ns) before) (drop c run) up in
-    let top = f .same n (joint a .out-one) ∙ getD-set-same bs n (take c run) [] (a .less n output) in
-    let here = lay-seen w before up (drop c run) (rw many (among-first a)) ∙ ap (lay w (view one before) (drop c run)) (view-set one n (joint a .out-one) (take c run) bs) in
-    let other = view-apart (apart-back (joint a .apart)) f ∙ view-set two n (joint a .out-two) (take c run) bs in
-    λ i. (top i, (here i, other i))
+    let many = length-set bs n (take c run) in
+    let d = one-down n m c ns (counts (m ∷ ns) before) run one two w bs (joint a .out-one) (joint a .out-two) (apart-back (joint a .apart)) (a .less n output)
+    (lay w (view one before) (drop c run)) (lay-seen w before (set bs n (take c run)) (drop c run) (rw many (among-first a))) in
+    λ i. (d .0 i, (d .1 i, d .2 i))
 lay-seen (by-second {n = n} {m = m} {one = one} {two = two} {ns = ns} w) before bs run a =
     let c = length (getD before n []) in
-    let up = set bs n (take c run) in
-    let many : length up ≡ length bs = length-set bs n (take c run) in
-    let f = refill-frame w (counts (m ∷ ns) before) (drop c run) up in
-    let top = f .same n (joint a .out-two) ∙ getD-set-same bs n (take c run) [] (a .less n output) in
-    let here = lay-seen w before up (drop c run) (rw many (among-second a)) ∙ ap (lay w (view two before) (drop c run)) (view-set two n (joint a .out-two) (take c run) bs) in
-    let other = view-apart (joint a .apart) f ∙ view-set one n (joint a .out-one) (take c run) bs in
-    λ i. (top i, (other i, here i))
+    let many = length-set bs n (take c run) in
+    let d = one-down n m c ns (counts (m ∷ ns) before) run two one w bs (joint a .out-two) (joint a .out-one) (joint a .apart) (a .less n output)
+    (lay w (view two before) (drop c run)) (lay-seen w before (set bs n (take c run)) (drop c run) (rw many (among-second a))) in
+    λ i. (d .0 i, (d .2 i, d .1 i))
 
 -- ---- a sweep's path
 
@@ -150,6 +148,7 @@ module _ (i j : ℕ) (link : 0 < i) (some : 0 < j) (most : j ≤ k i) where
       ∙ ap (λ ns. (first i + 0) ∷ ns) (wayDown-is (first i) (height i) bottom ∙ ap (λ n. (first i + n) ∷ rest (first i) (height i) bottom) at-b)
       ∙ ap (λ n. n ∷ (first i + 1) ∷ rest (first i) (height i) bottom) e
 
+  -- it is a way down from A(i)
   pub link-way : (n : ℕ) → Way (linksFrom i (suc n)) (first i) (fromB i j)
   unfolding linksFrom kMerger fromB
   link-way n =
@@ -157,12 +156,14 @@ module _ (i j : ℕ) (link : 0 < i) (some : 0 < j) (most : j ≤ k i) where
       let v = subst (λ l. Way (perfect (first i) (s i) (levels i) (bottom / 2 ^ l)) (first i + bottom / 2 ^ l) (rest (first i) l bottom)) (length-levels i link) w in
       by-first (subst (λ n. Way (perfect (first i) (s i) (levels i) n) (first i + n) (rest (first i) (height i) bottom)) at-b v)
 
+  -- from B(i) to S(i,j) there are as many buffers as levels, and S itself
   pub length-fromB : length (fromB i j) ≡ suc (height i)
   unfolding fromB
   length-fromB = ap suc (length-rest (first i) (height i) bottom)
 
 -- ---- through the outputs of the links before it
 
+-- a way, as a list of all its numbers
 abbrev pub IsWay : Tree → List ℕ → Type 0
 IsWay t [] = ⊥
 IsWay t (n ∷ ns) = Way t n ns
@@ -171,6 +172,7 @@ behind : (n c : ℕ) (one two : Tree) (ns : List ℕ) → IsWay two ns → IsWay
 behind n c one two [] w = absurd w
 behind n c one two (m ∷ ns) w = by-second w
 
+-- a way down from link a + p, and the outputs of p links before it
 pub way-through : (p a n : ℕ) (ns : List ℕ) → IsWay (linksFrom (a + p) n) ns → IsWay (linksFrom a (p + n)) (outputs a p ++ ns)
 unfolding linksFrom outputs
 way-through zero a n ns w = let e : a + 0 ≡ a = omega arith in let z : 0 + n ≡ n = omega arith in rw z (rw e at w)
@@ -193,6 +195,7 @@ pub record WayOf (t : Tree) (ns : List ℕ) : Type 0 where
   pub is : ns ≡ head ∷ tail
   pub way : Way t head tail
 
+-- every way has a first number
 pub way-of : {t : Tree} (ns : List ℕ) → IsWay t ns → WayOf t ns
 way-of [] w = absurd w
 way-of (n ∷ ns) w = record { head = n; tail = ns; is = refl; way = w }

@@ -1,11 +1,11 @@
 -- Facts about a link's sizes, over the link number.
 use Prim.Native.Nat.{ℕ, zero, suc, _+_, _-_, _*_, _^_, _/_, _≤_, _<_}
-use mathlib.Core.Path.{_≡_, refl, sym, ap, _∙_}
+use mathlib.Core.Path.{_≡_, refl, ap}
 use mathlib.Core.Logic.{_≢_}
 use mathlib.Core.Bool.{Bool, true, false}
-use mathlib.Core.List.{List, [], _∷_, _++_}
+use mathlib.Core.List.{List, [], _∷_}
 use native.Mathlib.Omega.{arith}
-use native.Mathlib.Nat.{one-le-pow, two-pow-succ}
+use native.Mathlib.Nat.{one-le-pow}
 use lib.Pow.{pow-pos}
 use lib.ListN.{length}
 use lib.Dec.{T, leb, ltb, eqb, leb→le, nleb→lt, eqb→eq, eqb-refl}
@@ -13,6 +13,7 @@ use Rattle.rules.specs.Links.{least, heightFor, kFor, s, k, height, root
 
 -- ---- cases of a test
 
+-- equal or not
 pub by-eqb : (x y : ℕ) (P : Bool → Type 0) → (x ≡ y → P true) → (x ≢ y → P false) → P (eqb x y)
 by-eqb x y P f g = go (eqb x y) refl
   where
@@ -20,6 +21,7 @@ by-eqb x y P f g = go (eqb x y) refl
     go true h = f (eqb→eq x y (rw h tt))
     go false h = g (λ q. let z : T (eqb x y) = rw q (eqb-refl y) in rw h at z)
 
+-- at most or above
 pub by-leb : (x y : ℕ) (P : Bool → Type 0) → (x ≤ y → P true) → (y < x → P false) → P (leb x y)
 by-leb x y P f g = go (leb x y) refl
   where
@@ -43,6 +45,7 @@ unfolding least
 least-some test zero some fails = absurd (omega arith)
 least-some test (suc tries) some fails = rw (fails, least) (least-from test tries 1)
 
+-- a test that fails
 pub leb-false : (x y : ℕ) → y < x → leb x y ≡ false
 leb-false x y h = by-leb x y (λ b. b ≡ false) (λ l. absurd (omega arith)) (λ l. refl)
 
@@ -54,19 +57,23 @@ unfolding s k
 s-next zero h = absurd (omega arith)
 s-next (suc i) h = omega arith
 
+-- no s is below s(1)
 pub s-least : (i : ℕ) → 0 < i → 8 ≤ s i
 unfolding s
 s-least zero h = absurd (omega arith)
 s-least (suc zero) h = omega arith
 s-least (suc (suc i)) h = omega (arith, s-next (suc i) (omega arith), s-least (suc i) (omega arith))
 
+-- k(i) is a power of two
 pub k-power : (i : ℕ) → k i ≡ 2 ^ height i
 unfolding k height kFor
 k-power i = refl
 
+-- and at least 1
 pub k-some : (i : ℕ) → 0 < k i
 k-some i = rw (k-power i) (pow-pos (height i))
 
+-- between B(i) and an S(i,j) there is a merger
 pub height-some : (i : ℕ) → 0 < i → 0 < height i
 unfolding height heightFor
 height-some i h = least-some (λ h. leb (s i) ((2 ^ h) ^ 3)) (s i) (omega (arith, s-least i h)) (leb-false (s i) 1 (omega (arith, s-least i h)))
@@ -101,6 +108,7 @@ inner-some (suc deep) h d a b c =
     (λ l. inner-some deep m d (omega arith) b l)
     (λ l. inner-some deep (h - m) (d - m) (omega arith) (omega arith) (omega arith)))
 
+-- none of these sizes is 0
 abbrev pub AllSome : List ℕ → Type 0
 AllSome [] = Unit {0}
 AllSome (c ∷ cs) = (0 < c) × AllSome cs
@@ -110,33 +118,43 @@ unfolding innerSizes
 inners-some h d zero a b = tt
 inners-some h d (suc n) a b = (inner-some h h d (omega arith) a (omega arith), inners-some h (suc d) n (omega arith) (omega arith))
 
+-- A(i) has room
 pub a-some : (i : ℕ) → 0 < capacity i 0
 unfolding capacity
 a-some i = rw (k-power i) (cube-some (height i))
 
+-- and so has each buffer from B(i) downwards
 pub levels-some : (i : ℕ) → 0 < i → AllSome (levels i)
 unfolding levels
 levels-some i h = (rw (k-power i) (cube-some (height i)), inners-some (height i) 1 (height i - 1) (omega arith) (omega (arith, height-some i h)))
 
 -- ---- numbers of buffers
 
+-- A(1) follows I
 pub first-one : first 1 ≡ 1
 unfolding first
 first-one = refl
 
+-- link i has 2k(i) buffers
 pub first-next : (i : ℕ) → 0 < i → first (suc i) ≡ first i + 2 * k i
 unfolding first
 first-next zero h = absurd (omega arith)
 first-next (suc i) h = refl
 
+-- no link begins before I
 pub first-some : (i : ℕ) → 0 < i → 0 < first i
 unfolding first
 first-some zero h = absurd (omega arith)
 first-some (suc zero) h = omega arith
 first-some (suc (suc i)) h = omega (arith, first-some (suc i) (omega arith))
 
+-- further links have larger numbers
 pub first-further : (i n : ℕ) → 0 < i → first i ≤ first (i + n)
 first-further i zero h = let e : i + 0 ≡ i = omega arith in rw e (omega arith)
 first-further i (suc n) h =
     let e : i + suc n ≡ suc (i + n) = omega arith in
     rw e (omega (arith, first-further i n h, first-next (i + n) (omega arith)))
+
+-- either of two links, the larger its number the larger the numbers of its buffers
+pub first-mono : (a b : ℕ) → 0 < a → a ≤ b → first a ≤ first b
+first-mono a b some h = let e : a + (b - a) ≡ b = omega arith in rw e at (first-further a (b - a) some)

@@ -1,23 +1,20 @@
 -- Takes: nothing is lost, every merge step is paid by an entry that rises, and entries come out in order.
-use Prim.Native.Nat.{ℕ, zero, suc, _+_, _-_, _*_, _≤_, _<_}
-use mathlib.Core.Path.{_≡_, refl, sym, ap, _∙_, subst}
-use mathlib.Core.List.{List, [], _∷_, _++_}
+use Prim.Native.Nat.{ℕ, zero, suc, _+_, _-_, _*_, _<_}
+use mathlib.Core.Path.{_≡_, refl, ap, _∙_}
+use mathlib.Core.List.{List, []}
 use native.Mathlib.Omega.{arith}
 use lib.ListN.{length, getD, length-append}
-use lib.Dec.{T, eqb}
-use Rattle.rules.specs.Tree.{Buffers, Tree, exhausted, buffer, merger, entries}
-use Rattle.rules.specs.Merge.{Step, stop, move, mergeStep}
-use Rattle.rules.specs.Take.{Taken, insertion, heldIn, ready, takeOne, takes, takeAll}
-use Rattle.rules.specs.Order.{ascends, lastKey, ordered, inOrder}
-use Rattle.rules.proofs.Table.{and-one, and-two}
-use Rattle.rules.proofs.Tests.{and-both}
+use lib.Dec.{eqb}
+use Rattle.rules.specs.Tree.{Buffers, Tree, exhausted, buffer, merger}
+use Rattle.rules.specs.Merge.{Step}
+use Rattle.rules.specs.Fill.{untouched}
+use Rattle.rules.specs.Take.{insertion, heldIn, ready, takeOne, takes, takeAll}
 use Rattle.rules.proofs.Steps.{Stepped, stops, from-first, from-second, stepped}
-use Rattle.rules.proofs.Numbers.{Stands, itself, output, in-first, in-second, Outside, Among}
-use Rattle.rules.proofs.Contents.{Below, Contents, below, view, Refilled, refill, fillContents}
-use Rattle.rules.proofs.Weight.{sumOf, sumOf-append, sumOf-ones, weightIn, weightBelow, weight, weight-seen, held-weight, refill-pays, contents-pay, oneIf, timesOf, timesIn, owedIn}
-use Rattle.rules.proofs.Full.{Roomy, heldBelow, held-seen, refill-drains, contents-drain, refill-keeps, no-entries}
-use Rattle.rules.proofs.Ordered.{Ascends, ascends-says, says-ascends, OrderedBelow, Ordered, ordered-says, says-ordered, From, raise, none-ordered, contents-ordered}
-use Rattle.rules.proofs.Takes.{Took, handContents, takeContents, takesContents, Beside, seen, take-seen, takes-seen}
+use Rattle.rules.proofs.Numbers.{Stands, itself, output, in-first, in-second}
+use Rattle.rules.proofs.Contents.{Below, Contents, view, refill, fillContents}
+use Rattle.rules.proofs.Weight.{sumOf, sumOf-append, sumOf-ones, weightIn, weightBelow, weight, weight-seen, held-weight, refill-pays, contents-pay, fill-pays, oneIf, timesOf, timesIn}
+use Rattle.rules.proofs.Full.{Roomy, heldBelow, held-seen, refill-drains, contents-drain, no-entries}
+use Rattle.rules.proofs.Takes.{Took, handContents, takeContents, takesContents, Beside, ready-cases, ready-insertion, take-seen, takes-seen}
 
 -- ---- weights over I and a tree
 
@@ -58,12 +55,21 @@ module _ (g : ℕ → ℕ → ℕ) (e : ℕ) (deeper : (d x : ℕ) → g (suc d)
       )
 
   module _ (bs : Buffers) (b : Beside t (length bs)) where
+    ready-tree-pays : weightIn g t 0 (ready key t bs .buffers) + e * ready key t bs .steps ≡ weightIn g t 0 bs
+    unfolding untouched
+    ready-tree-pays = ready-cases key t bs (λ z. weightIn g t 0 (z .buffers) + e * z .steps ≡ weightIn g t 0 bs) (omega arith) (fill-pays g e deeper key t 0 bs (b .among))
+
+    -- what I and the tree weigh when A(1) was filled if need be, with e for each merge step, is what they weighed
+    pub ready-pays : let z = ready key t bs in weightAll g t (z .buffers) + e * z .steps ≡ weightAll g t bs
+    ready-pays = omega (arith, ready-tree-pays, ap (sumOf (g 0)) (ready-insertion key t (length bs) b bs refl))
+
     -- what the taken entries, I and the tree weigh, with e for each merge step, is what I and the tree weighed
     pub take-pays : let z = takeOne key t bs in sumOf (g 0) (z .out) + weightAll g t (z .buffers) + e * z .steps ≡ weightAll g t bs
     take-pays =
         let z = takeOne key t bs in
         omega (arith, ap left (take-seen key t (length bs) b bs refl), take-contents-pay (insertion bs) (view t bs), weight-seen g t 0 bs, weight-seen g t 0 (z .buffers))
 
+    -- and so for many takes
     pub takes-pay : (n : ℕ) → let z = takes key t n bs in sumOf (g 0) (z .out) + weightAll g t (z .buffers) + e * z .steps ≡ weightAll g t bs
     takes-pay n =
         let z = takes key t n bs in
@@ -120,20 +126,6 @@ module _ (key : ℕ → ℕ) {t : Tree} (roomy : Roomy t) where
         ap (λ (z : Took (Below t)). length (z .out)) (take-seen key t (length bs) b bs refl)
         ∙ take-contents-one (insertion bs) (view t bs) .one (rw (← held-seen t 0 bs) h)
 
-    -- and then one fewer is held
-    pub take-held : length (takeOne key t bs .out) + heldAll t (takeOne key t bs .buffers) ≡ heldAll t bs
-    take-held =
-        let z = takeOne key t bs in
-        omega (
-          arith,
-          take-pays (λ d e. 1) 0 (λ d e. omega arith) key t bs b,
-          sumOf-ones (z .out),
-          sumOf-ones (insertion bs),
-          sumOf-ones (insertion (z .buffers)),
-          held-weight t 0 bs,
-          held-weight t 0 (z .buffers),
-        )
-
     -- "take everything out by repeated takes": then nothing is held, and as many came out as were held
     pub takeAll-empties : (heldAll t (takeAll key t bs .buffers) ≡ 0) × (length (takeAll key t bs .out) ≡ heldAll t bs)
     unfolding takeAll
@@ -143,6 +135,20 @@ module _ (key : ℕ → ℕ) {t : Tree} (roomy : Roomy t) where
         let e = takes-seen key t (length bs) b n bs refl in
         let h = takes-contents-empty n (insertion bs) (view t bs) (omega (arith, held-seen t 0 bs)) in
         (omega (arith, ap (λ (z : Took (Below t)). total (z .insertion) (z .tree)) e, h .0, held-seen t 0 (z .buffers)), ap (λ (z : Took (Below t)). length (z .out)) e ∙ h .1)
+
+module _ (key : ℕ → ℕ) (t : Tree) (bs : Buffers) (b : Beside t (length bs)) where
+  held-all : (bs : Buffers) → heldAll t bs ≡ weightAll (λ d e. 1) t bs
+  held-all bs = omega (arith, sumOf-ones (insertion bs), held-weight t 0 bs)
+
+  -- as many fewer are held as a take has handed out
+  pub take-held : length (takeOne key t bs .out) + heldAll t (takeOne key t bs .buffers) ≡ heldAll t bs
+  take-held =
+      let z = takeOne key t bs in
+      omega (arith, take-pays (λ d e. 1) 0 (λ d e. omega arith) key t bs b, sumOf-ones (z .out), held-all bs, held-all (z .buffers))
+
+  -- and as many as before after a look
+  pub ready-held : heldAll t (ready key t bs .buffers) ≡ heldAll t bs
+  ready-held = omega (arith, ready-pays (λ d e. 1) 0 (λ d e. omega arith) key t bs b, held-all bs, held-all (ready key t bs .buffers))
 
 -- where nothing stands in a tree, each of its buffers is empty
 pub none-stands : (t : Tree) (bs : Buffers) → heldIn t bs ≡ 0 → {m : ℕ} → Stands m t → getD bs m [] ≡ []
@@ -154,6 +160,7 @@ none-stands (merger n c one two) bs h (in-second s) = none-stands two bs (omega 
 
 -- ---- and weighs nothing
 
+-- a tree with nothing in it
 pub none-weighs : (g : ℕ → ℕ → ℕ) (t : Tree) (d : ℕ) (bs : Buffers) → heldIn t bs ≡ 0 → weightIn g t d bs ≡ 0
 unfolding weightIn heldIn
 none-weighs g exhausted d bs h = refl
@@ -172,3 +179,22 @@ takeAll-pays g e deeper key {t} roomy bs b =
     let none = takeAll-empties key roomy bs b .0 in
     let i : sumOf (g 0) (insertion (z .buffers)) ≡ 0 = ap (sumOf (g 0)) (no-entries (insertion (z .buffers)) (omega arith)) in
     omega (arith, takes-pay g e deeper key t bs b n, none-weighs g t 0 (z .buffers) (omega arith))
+
+-- ---- how often a value is held
+
+-- in I and in the tree
+abbrev pub timesAll : ℕ → Tree → Buffers → ℕ
+timesAll v t bs = timesOf v (insertion bs) + timesIn v t bs
+
+module _ (key : ℕ → ℕ) (t : Tree) (bs : Buffers) (b : Beside t (length bs)) (v : ℕ) where
+  -- what a take hands out is what is then held no more
+  pub take-times : timesOf v (takeOne key t bs .out) + timesAll v t (takeOne key t bs .buffers) ≡ timesAll v t bs
+  take-times = omega (arith, take-pays (λ d e. oneIf (eqb v e)) 0 (λ d e. omega arith) key t bs b)
+
+  -- and so for many takes
+  pub takes-times : (n : ℕ) → timesOf v (takes key t n bs .out) + timesAll v t (takes key t n bs .buffers) ≡ timesAll v t bs
+  takes-times n = omega (arith, takes-pay (λ d e. oneIf (eqb v e)) 0 (λ d e. omega arith) key t bs b n)
+
+  -- a look hands out nothing
+  pub ready-times : timesAll v t (ready key t bs .buffers) ≡ timesAll v t bs
+  ready-times = omega (arith, ready-pays (λ d e. oneIf (eqb v e)) 0 (λ d e. omega arith) key t bs b)

@@ -1,39 +1,42 @@
 -- Takes of a queue in order: they hand out a smallest entry, one after the other in ascending order, and leave the queue in order.
 use Prim.Native.Nat.{ℕ, zero, suc, _+_, _≤_, _<_}
-use mathlib.Core.Path.{_≡_, refl, sym, ap, _∙_, subst}
-use mathlib.Core.Bool.{Bool, true, false}
+use mathlib.Core.Path.{_≡_, refl, sym, ap, subst}
 use mathlib.Core.List.{List, [], _∷_, _++_}
 use native.Mathlib.Omega.{arith}
-use lib.ListN.{length, getD}
+use lib.ListN.{length}
 use lib.Dec.{T, eqb}
 use Rattle.rules.specs.Tree.{Buffers, Tree, exhausted, buffer, merger, entries}
-use Rattle.rules.specs.Merge.{Step, stop, move, mergeStep}
-use Rattle.rules.specs.Take.{Taken, insertion, heldIn, ready, takeOne, takes, takeAll}
+use Rattle.rules.specs.Merge.{Step}
+use Rattle.rules.specs.Fill.{untouched}
+use Rattle.rules.specs.Take.{insertion, heldIn, ready, takeOne, takes, takeAll}
 use Rattle.rules.specs.Order.{ascends, lastKey, ordered, inOrder}
 use Rattle.rules.proofs.Table.{and-one, and-two}
 use Rattle.rules.proofs.Tests.{and-both}
-use Rattle.rules.proofs.Steps.{NotAbove, Stepped, stops, from-first, from-second, stepped}
-use Rattle.rules.proofs.Contents.{Below, Contents, below, view, Refilled, refill, fillContents}
-use Rattle.rules.proofs.Weight.{sumOf, sumOf-append, weightIn, weightBelow, weight, weight-seen, oneIf, timesOf, timesIn}
+use Rattle.rules.proofs.Steps.{Stepped, stops, from-first, from-second, stepped}
+use Rattle.rules.proofs.Contents.{Below, Contents, below, view, refill, fillContents}
+use Rattle.rules.proofs.Weight.{weightBelow, weight-seen, oneIf, timesOf, timesIn}
 use Rattle.rules.proofs.Full.{Roomy, heldBelow, refill-drains, contents-drain, refill-keeps}
-use Rattle.rules.proofs.Ordered.{Ascends, ascends-from, ordered-from, ascends-says, says-ascends, OrderedBelow, Ordered, ordered-says, says-ordered, raise, none-ordered, contents-ordered}
-use Rattle.rules.proofs.Takes.{Took, handContents, takeContents, takesContents, Beside, seen, take-seen, takes-seen, ready-seen, ready-insertion}
+use Rattle.rules.proofs.Ordered.{Ascends, ascends-raise, ascends-from, ordered-from, ascends-says, says-ascends, OrderedBelow, Ordered, ordered-says, says-ordered, raise, none-ordered, contents-ordered, fill-ordered}
+use Rattle.rules.proofs.Takes.{Took, handContents, takeContents, takesContents, Beside, seen, take-seen, takes-seen, ready-cases, ready-insertion}
 use Rattle.rules.proofs.Sizes.{by-eqb, by-leb}
-use Rattle.rules.proofs.TakeLaws.{weightAll, take-pays}
+use Rattle.rules.proofs.TakeLaws.{take-pays}
 
 module _ (key : ℕ → ℕ) where
   -- ---- runs
 
+  -- a run that goes on where another ends
   pub ascends-append : (low : ℕ) (xs ys : List ℕ) → Ascends key low xs → Ascends key (lastKey key low xs) ys → Ascends key low (xs ++ ys)
   unfolding lastKey
   ascends-append low [] ys p q = q
   ascends-append low (x ∷ xs) ys p q = (p .0, ascends-append (key x) xs ys (p .1) q)
 
+  -- the last key of both
   pub lastKey-append : (low : ℕ) (xs ys : List ℕ) → lastKey key low (xs ++ ys) ≡ lastKey key (lastKey key low xs) ys
   unfolding lastKey
   lastKey-append low [] ys = refl
   lastKey-append low (x ∷ xs) ys = lastKey-append (key x) xs ys
 
+  -- no key is below the first bound
   pub ascends-last : (low : ℕ) (es : List ℕ) → Ascends key low es → low ≤ lastKey key low es
   unfolding lastKey
   ascends-last low [] h = omega arith
@@ -73,11 +76,8 @@ module _ (key : ℕ → ℕ) where
 
   -- ---- one take
 
-  pub ascends-raise : (e low : ℕ) (xs : List ℕ) → NotAbove key e xs → Ascends key low xs → Ascends key (key e) xs
-  ascends-raise e low [] l h = tt
-  ascends-raise e low (x ∷ xs) l h = (l, h .1)
-
   module _ (t : Tree) where
+    -- what was handed out ascends, and what is left goes on from there
     pub record TookInOrder (low : ℕ) (z : Took (Below t)) : Type 0 where
       pub out : Ascends key low (z .out)
       pub insertion : Ascends key (lastKey key low (z .out)) (z .insertion)
@@ -87,7 +87,7 @@ module _ (key : ℕ → ℕ) where
         → Ascends key low ys → Ordered key t low (xs, b) → TookInOrder low (handContents s b steps)
     unfolding handContents lastKey
     hand-ordered low stops b steps d i h = record { out = tt; insertion = i; tree = h }
-    hand-ordered low (from-first {e = e} {xs = xs} {ys = ys} l) b steps d i h = record { out = (h .0 .0, tt); insertion = ascends-raise e low ys l i; tree = (h .0 .1, h .1) }
+    hand-ordered low (from-first {e = e} {xs = xs} {ys = ys} l) b steps d i h = record { out = (h .0 .0, tt); insertion = ascends-raise key e low ys l i; tree = (h .0 .1, h .1) }
     hand-ordered low (from-second {e = e} {xs = xs} {ys = ys} l) b steps d i h =
         record { out = (i .0, tt); insertion = i .1; tree = raise key (OrderedBelow key t) (heldBelow t 0) (none-ordered key t 0) e low xs b l d h }
 
@@ -122,6 +122,10 @@ module _ (key : ℕ → ℕ) where
       unfolding inOrder
       tree-ordered = ordered-says key t 0 bs (and-two (ascends key 0 (insertion bs)) (ordered key t 0 bs) holds)
 
+      ready-tree : T (ordered key t 0 bs) → T (ordered key t 0 (ready key t bs .buffers))
+      unfolding untouched
+      ready-tree h = ready-cases key t bs (λ z. T (ordered key t 0 (z .buffers))) h (fill-ordered key roomy 0 bs (b .among) h)
+
       takes-ordered-seen : (n : ℕ) → TookInOrder t 0 (seen t (takes key t n bs))
       takes-ordered-seen n =
           subst (TookInOrder t 0) (sym (takes-seen key t (length bs) b n bs refl)) (takes-contents-ordered n 0 (insertion bs) (view t bs) insertion-ascends tree-ordered)
@@ -134,6 +138,7 @@ module _ (key : ℕ → ℕ) where
       pub takes-ascend : (n : ℕ) → Ascends key 0 (takes key t n bs .out)
       takes-ascend n = takes-ordered-seen n .out
 
+      -- and so does all that is taken out
       pub takeAll-ascends : Ascends key 0 (takeAll key t bs .out)
       unfolding takeAll
       takeAll-ascends = takes-ascend (length (insertion bs) + heldIn t bs)
@@ -147,6 +152,14 @@ module _ (key : ℕ → ℕ) where
           and-both (ascends key 0 (insertion (z .buffers))) (ordered key t 0 (z .buffers))
           (says-ascends key 0 (insertion (z .buffers)) (ascends-from key (omega arith) (insertion (z .buffers)) (o .insertion)))
           (says-ordered key t 0 (z .buffers) (ordered-from key t (omega arith) (view t (z .buffers)) (o .tree)))
+
+      -- so is what a look leaves
+      pub ready-ordered : T (inOrder key t (ready key t bs .buffers))
+      unfolding inOrder
+      ready-ordered =
+          let now = ready key t bs .buffers in
+          let i = ready-insertion key t (length bs) b bs refl in
+          and-both (ascends key 0 (insertion now)) (ordered key t 0 now) (rw i (says-ascends key 0 (insertion bs) insertion-ascends)) (ready-tree (says-ordered key t 0 bs tree-ordered))
 
       -- a take hands out a smallest entry: none that is held has a smaller key
       pub take-smallest : (e : ℕ) → takeOne key t bs .out ≡ e ∷ [] → (v : ℕ) → 0 < timesOf v (insertion bs) + timesIn v t bs → key e ≤ key v

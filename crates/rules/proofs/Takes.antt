@@ -1,17 +1,17 @@
 -- Takes seen through the tree: what stands in I and in the tree before and after, and what they leave alone.
 use Prim.Native.Nat.{ℕ, zero, suc, _+_, _<_}
-use mathlib.Core.Path.{_≡_, refl, sym, ap, _∙_}
+use mathlib.Core.Path.{_≡_, refl, _∙_}
 use mathlib.Core.Logic.{_≢_}
 use mathlib.Core.List.{List, [], _∷_, _++_}
 use native.Mathlib.Omega.{arith}
 use lib.ListN.{length, getD, set, length-set}
 use lib.Seq.{getD-set-same, getD-set-other}
-use Rattle.rules.specs.Tree.{Buffers, Tree, exhausted, buffer, merger, entries, put}
+use Rattle.rules.specs.Tree.{Buffers, Tree, entries, put}
 use Rattle.rules.specs.Merge.{Step, stop, move, mergeStep}
 use Rattle.rules.specs.Fill.{Filled, untouched, ifEmpty, fill}
 use Rattle.rules.specs.Take.{Taken, insertion, handOut, heldIn, ready, takeOne, takes, takeAll}
 use Rattle.rules.proofs.Steps.{Stepped, stops, from-first, from-second, stepped}
-use Rattle.rules.proofs.Numbers.{Stands, Outside, Among}
+use Rattle.rules.proofs.Numbers.{Outside, Among}
 use Rattle.rules.proofs.Contents.{Below, Contents, below, view, Refilled, refill, fillContents}
 use Rattle.rules.proofs.Frame.{Frame, frame-put, ifEmpty-frame, fill-frame, view-set}
 use Rattle.rules.proofs.Lens.{CanHold, can-hold, can-hold-rest, view-put, refill-seen, fill-seen}
@@ -25,17 +25,20 @@ pub record Took (A : Type 0) : Type 0 where
   pub tree : List ℕ × A
   pub steps : ℕ
 
+-- the entry leaves A(1) or I
 unfoldable pub handContents : {A : Type 0} → Step → A → ℕ → Took A
 handContents stop a steps = record { out = []; insertion = []; tree = ([], a); steps = steps }
 handContents (move e xs ys) a steps = record { out = e ∷ []; insertion = ys; tree = (xs, a); steps = steps }
 
 module _ (key : ℕ → ℕ) (t : Tree) where
+  -- "Hand out the smaller of the heads of A(1) and I"
   unfoldable pub takeContents : List ℕ → Contents t → Took (Below t)
   unfolding refill fillContents handContents mergeStep
   takeContents i z =
       let now = refill (fillContents key t) (z .0) (z .1) in
       handContents (mergeStep key (now .contents .0) i) (now .contents .1) (now .steps)
 
+  -- so many takes
   unfoldable pub takesContents : ℕ → List ℕ → Contents t → Took (Below t)
   unfolding takeContents
   takesContents zero i z = record { out = []; insertion = i; tree = z; steps = 0 }
@@ -60,6 +63,7 @@ tframe-then p q = record { as-many = q .as-many ∙ p .as-many; same = λ m some
 tframe-in : {t : Tree} {a b : Buffers} → Frame t a b → TakeFrame t a b
 tframe-in p = record { as-many = p .as-many; same = λ m some out. p .same m out }
 
+-- other entries in I
 pub tframe-insertion : {t : Tree} (es : List ℕ) (bs : Buffers) → TakeFrame t bs (set bs 0 es)
 tframe-insertion es bs = record { as-many = length-set bs 0 es; same = λ m some out. getD-set-other bs 0 m es [] some }
 
@@ -69,6 +73,7 @@ hand-frame t stop now = tframe-none (now .buffers)
 hand-frame t (move e xs ys) now = tframe-then (tframe-in (frame-put t xs (now .buffers))) (tframe-insertion ys (put t xs (now .buffers)))
 
 module _ (key : ℕ → ℕ) (t : Tree) where
+  -- a fill before the take changes the tree alone
   pub ready-frame : (bs : Buffers) → Frame t bs (ready key t bs .buffers)
   unfolding ready
   ready-frame bs = ifEmpty-frame (fill key t) (fill-frame key t) (entries t bs) bs
@@ -82,17 +87,20 @@ module _ (key : ℕ → ℕ) (t : Tree) where
       go [] = filled
       go (e ∷ es) = kept
 
+  -- a take changes I and the tree alone
   pub take-frame : (bs : Buffers) → TakeFrame t bs (takeOne key t bs .buffers)
   unfolding takeOne
   take-frame bs =
       let now = ready key t bs in
       tframe-then (tframe-in (ready-frame bs)) (hand-frame t (mergeStep key (entries t (now .buffers)) (insertion (now .buffers))) now)
 
+  -- and so do many
   pub takes-frame : (n : ℕ) (bs : Buffers) → TakeFrame t bs (takes key t n bs .buffers)
   unfolding takes
   takes-frame zero bs = tframe-none bs
   takes-frame (suc n) bs = let one = takeOne key t bs in tframe-then (take-frame bs) (takes-frame n (one .buffers))
 
+  -- or all
   pub takeAll-frame : (bs : Buffers) → TakeFrame t bs (takeAll key t bs .buffers)
   unfolding takeAll
   takeAll-frame bs = takes-frame (length (insertion bs) + heldIn t bs) bs
@@ -105,6 +113,7 @@ pub record Beside (t : Tree) (count : ℕ) : Type 0 where
   pub outside : Outside 0 t
   pub some : 0 < count
 
+-- what the buffers show of a take
 abbrev pub seen : (t : Tree) → Taken → Took (Below t)
 seen t z = record { out = z .out; insertion = insertion (z .buffers); tree = view t (z .buffers); steps = z .steps }
 
@@ -115,6 +124,7 @@ module _ (key : ℕ → ℕ) (t : Tree) (count : ℕ) (b : Beside t count) where
     unfolding insertion
     ready-insertion = ready-frame key t bs .same 0 (b .outside)
 
+    -- it is the fill of what stands in the tree
     pub ready-seen : _≡_ {A = Refilled (Below t)} (record { contents = view t (ready key t bs .buffers); steps = ready key t bs .steps }) (refill (fillContents key t) (entries t bs) (below t bs))
     unfolding ready
     ready-seen = refill-seen t count (fill key t) (fillContents key t) (fill-seen key t count (b .among)) bs many (entries t bs) refl
@@ -145,6 +155,7 @@ module _ (key : ℕ → ℕ) (t : Tree) (count : ℕ) (b : Beside t count) where
       hand-seen now (ready-frame key t bs .as-many ∙ many) refl refl (stepped key (entries t (now .buffers)) (insertion (now .buffers)))
       ∙ (λ j. handContents (mergeStep key (r j .contents .0) (i j)) (r j .contents .1) (r j .steps))
 
+  -- and so for many takes
   pub takes-seen : (n : ℕ) (bs : Buffers) → length bs ≡ count → seen t (takes key t n bs) ≡ takesContents key t n (insertion bs) (view t bs)
   unfolding takes takesContents
   takes-seen zero bs many = refl

@@ -5,6 +5,7 @@ use native.Mathlib.Omega.{arith}
 use lib.Dec.{T}
 use Rattle.rules.specs.Tests.{_and_, every}
 
+-- both pass
 pub and-both : (a b : Bool) → T a → T b → T (a and b)
 and-both true b p q = q
 and-both false b p q = p

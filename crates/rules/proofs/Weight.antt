@@ -1,14 +1,14 @@
 -- One law for every sum over the entries of a tree: how often a value stands in it, how many entries it has, and the account of the merge steps.
 use Prim.Native.Nat.{ℕ, zero, suc, _+_, _-_, _*_}
-use mathlib.Core.Path.{_≡_, refl, sym, ap, _∙_}
+use mathlib.Core.Path.{_≡_, refl, sym, ap}
 use mathlib.Core.Bool.{Bool, true, false}
 use mathlib.Core.List.{List, [], _∷_, _++_}
 use native.Mathlib.Omega.{arith}
 use lib.ListN.{length, getD}
 use lib.Dec.{eqb}
 use Rattle.rules.specs.Tree.{Buffers, Tree, exhausted, buffer, merger, entries}
-use Rattle.rules.specs.Merge.{Step, stop, move, mergeStep}
-use Rattle.rules.specs.Fill.{Filled, fill}
+use Rattle.rules.specs.Merge.{Step}
+use Rattle.rules.specs.Fill.{fill}
 use Rattle.rules.specs.Take.{heldIn}
 use Rattle.rules.proofs.Steps.{Stepped, stops, from-first, from-second, stepped}
 use Rattle.rules.proofs.Numbers.{Among}
@@ -22,20 +22,24 @@ abbrev pub sumOf : (ℕ → ℕ) → List ℕ → ℕ
 sumOf w [] = 0
 sumOf w (e ∷ es) = w e + sumOf w es
 
+-- one run behind another
 pub sumOf-append : (w : ℕ → ℕ) (xs ys : List ℕ) → sumOf w (xs ++ ys) ≡ sumOf w xs + sumOf w ys
 sumOf-append w [] ys = omega arith
 sumOf-append w (x ∷ xs) ys = omega (arith, sumOf-append w xs ys)
 
+-- each entry 1: the length
 pub sumOf-ones : (es : List ℕ) → sumOf (λ e. 1) es ≡ length es
 sumOf-ones [] = refl
 sumOf-ones (e ∷ es) = omega (arith, sumOf-ones es)
 
+-- each entry d: d times the length
 pub sumOf-same : (d : ℕ) (es : List ℕ) → sumOf (λ e. d) es ≡ d * length es
 sumOf-same d [] = omega arith
 sumOf-same d (e ∷ es) = omega (arith, sumOf-same d es)
 
 -- ---- weights of a tree: `g d e` is what entry e weighs at depth d
 
+-- what the entries of a tree weigh, its top at depth d
 unfoldable pub weightIn : (ℕ → ℕ → ℕ) → Tree → ℕ → Buffers → ℕ
 weightIn g exhausted d bs = 0
 weightIn g (buffer n c) d bs = sumOf (g d) (getD bs n [])
@@ -48,9 +52,11 @@ weightBelow g (buffer n c) d b = 0
 weightBelow g (merger n c one two) d b =
     (sumOf (g (suc d)) (b .0 .0) + weightBelow g one (suc d) (b .0 .1)) + (sumOf (g (suc d)) (b .1 .0) + weightBelow g two (suc d) (b .1 .1))
 
+-- of all contents
 abbrev pub weight : (ℕ → ℕ → ℕ) → (t : Tree) → ℕ → Contents t → ℕ
 weight g t d z = sumOf (g d) (z .0) + weightBelow g t d (z .1)
 
+-- seen through the tree
 pub weight-seen : (g : ℕ → ℕ → ℕ) (t : Tree) (d : ℕ) (bs : Buffers) → weightIn g t d bs ≡ weight g t d (view t bs)
 unfolding weightIn weightBelow entries below
 weight-seen g exhausted d bs = refl
@@ -64,6 +70,7 @@ module _ (e : ℕ) {A : Type 0} (w : ℕ → ℕ) (below : A → ℕ) where
   abbrev Pays : (List ℕ × A → Refilled A) → Type 0
   Pays f = (z : List ℕ × A) → let r = f z in sumOf w (r .contents .0) + below (r .contents .1) + e * r .steps ≡ sumOf w (z .0) + below (z .1)
 
+  -- so does a fill that is made only where the input is empty
   pub refill-pays : (f : List ℕ × A → Refilled A) → Pays f → (es : List ℕ) (a : A)
       → let r = refill f es a in sumOf w (r .contents .0) + below (r .contents .1) + e * r .steps ≡ sumOf w es + below a
   unfolding refill
@@ -102,6 +109,7 @@ module _ (e : ℕ) {A B : Type 0} (up low : ℕ → ℕ) (falls : (x : ℕ) → 
       )
 
 module _ (g : ℕ → ℕ → ℕ) (e : ℕ) (deeper : (d x : ℕ) → g (suc d) x ≡ g d x + e) (key : ℕ → ℕ) where
+  -- a fill of contents
   pub contents-pay : (t : Tree) (d : ℕ) → Pays e (g d) (weightBelow g t d) (fillContents key t)
   unfolding fillContents weightBelow
   contents-pay exhausted d z = omega arith
@@ -124,6 +132,7 @@ module _ (g : ℕ → ℕ → ℕ) (e : ℕ) (deeper : (d x : ℕ) → g (suc d)
 
 -- ---- what it says of values, of numbers held and of steps
 
+-- 1 where a test holds
 abbrev pub oneIf : Bool → ℕ
 oneIf true = 1
 oneIf false = 0
@@ -132,6 +141,7 @@ oneIf false = 0
 abbrev pub timesOf : ℕ → List ℕ → ℕ
 timesOf v = sumOf (λ e. oneIf (eqb v e))
 
+-- and in a tree
 abbrev pub timesIn : ℕ → Tree → Buffers → ℕ
 timesIn v t bs = weightIn (λ d e. oneIf (eqb v e)) t 0 bs
 
@@ -151,6 +161,7 @@ module _ (key : ℕ → ℕ) (t : Tree) (bs : Buffers) (a : Among t (length bs))
   pub fill-times : (v : ℕ) → timesIn v t (fill key t bs .buffers) ≡ timesIn v t bs
   fill-times v = omega (arith, fill-pays (λ d e. oneIf (eqb v e)) 0 (λ d e. omega arith) key t 0 bs a)
 
+  -- as many entries are held
   pub fill-held : heldIn t (fill key t bs .buffers) ≡ heldIn t bs
   fill-held = omega (arith, fill-pays (λ d e. 1) 0 (λ d e. omega arith) key t 0 bs a, held-weight t 0 bs, held-weight t 0 (fill key t bs .buffers))
 

@@ -1,7 +1,7 @@
 //! Random changes of a sound book's words.
 
 use super::near::Book;
-use super::{BufferWord, FIRST_BUFFER_WORD, LINK_WORD};
+use super::{FIRST_BUFFER_WORD, LINK_WORD};
 use crate::links::link;
 use crate::rng::Rng;
 
@@ -79,47 +79,32 @@ fn swap_buffers(rng: &mut Rng, words: &mut [u64]) {
 fn change_buffer(rng: &mut Rng, words: &mut [u64]) {
     let mut book = Book::of(words);
     let number = book.some_buffer(rng);
-    let said = book.get(number);
+    let mut said = book.get(number);
     let capacity = book.capacity(number);
-    let BufferWord { count, mark, start } = said;
-    let new = match rng.below(10) {
-        0 => BufferWord {
-            count: capacity + 1,
-            ..said
-        },
-        1 => BufferWord {
-            count: rng.size(2 * capacity),
-            ..said
-        },
-        2 => BufferWord {
-            count: 0xFFFF - rng.size(3),
-            ..said
-        },
-        3 => BufferWord {
-            count: (count + 1).min(0xFFFF),
-            ..said
-        },
-        4 => BufferWord {
-            count: count.saturating_sub(1),
-            ..said
-        },
-        5 => BufferWord {
-            start: rng.size(2 * capacity),
-            ..said
-        },
+    match rng.below(10) {
+        0..=4 => said.count = wrong_count(rng, said.count, capacity),
+        5..=7 => said.start = wrong_start(rng, said.start, capacity),
+        _ => said.mark = !said.mark,
+    }
+    book.set(number, said);
+}
+
+fn wrong_count(rng: &mut Rng, count: usize, capacity: usize) -> usize {
+    match rng.below(5) {
+        0 => capacity + 1,
+        1 => rng.size(2 * capacity),
+        // The largest count that the word has bits for, or near it.
+        2 => 0xFFFF - rng.size(3),
+        3 => (count + 1).min(0xFFFF),
+        _ => count.saturating_sub(1),
+    }
+}
+
+fn wrong_start(rng: &mut Rng, start: usize, capacity: usize) -> usize {
+    match rng.below(3) {
+        0 => rng.size(2 * capacity),
         // The largest start place that the word has bits for, or near it.
-        6 => BufferWord {
-            start: (1 << 47) - 1 - rng.size(2 * capacity),
-            ..said
-        },
-        7 => BufferWord {
-            start: start.saturating_sub(1),
-            ..said
-        },
-        _ => BufferWord {
-            mark: !mark,
-            ..said
-        },
-    };
-    book.set(number, new);
+        1 => (1 << 47) - 1 - rng.size(2 * capacity),
+        _ => start.saturating_sub(1),
+    }
 }

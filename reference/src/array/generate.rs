@@ -213,12 +213,12 @@ impl Arrays {
     /// A work area's length: mostly enough, else too short or beside the limit.
     pub fn some_work_words(&mut self, links: usize) -> usize {
         let most = most_held(links);
-        match self.rng.below(12) {
+        match self.rng.below(24) {
             0 => most - 1,
             1 => self.rng.size(most),
+            2 if links > 1 => most_held(links - 1),
             2 => 0,
-            3 => most + 1 + self.rng.size(9),
-            4 if links > 1 => most_held(links - 1),
+            3..=4 => most + 1 + self.rng.size(9),
             _ => most,
         }
     }

@@ -1,0 +1,77 @@
+//! Compares the library's functions with the independent program: many arrays of
+//! every kind, and sessions of calls on one array.
+
+// Built with nothing of the library, there is nobody to lend memory to.
+#![cfg_attr(
+    not(any(feature = "book", feature = "calls", feature = "insert")),
+    allow(dead_code)
+)]
+
+mod arrays;
+mod check;
+#[cfg(feature = "fake")]
+mod fake;
+mod lent;
+mod library;
+mod options;
+mod sessions;
+mod show;
+mod tally;
+
+use check::Memory;
+use options::{read_options, Group, Options};
+use std::process::ExitCode;
+use tally::Tally;
+
+/// Whether the library's functions of a group are built in.
+fn built_in(group: Group) -> bool {
+    match group {
+        Group::Book => cfg!(feature = "book"),
+        Group::Calls => cfg!(feature = "calls"),
+        Group::Insert => cfg!(feature = "insert"),
+    }
+}
+
+fn compare(options: &Options, tally: &mut Tally) -> Result<(), String> {
+    let mut memory = Memory::new(options.trace);
+    let mut source = arrays::compare(options, &mut memory, tally)?;
+    match options.group {
+        Group::Book => Ok(()),
+        Group::Calls => sessions::emptying(options, &mut source, &mut memory, tally),
+        Group::Insert if built_in(Group::Calls) => sessions::whole(options, &mut memory, tally),
+        Group::Insert => {
+            println!("no sessions: calls are not built in");
+            Ok(())
+        }
+    }
+}
+
+fn main() -> ExitCode {
+    let arguments: Vec<String> = std::env::args().skip(1).collect();
+    let options = match read_options(&arguments) {
+        Ok(options) => options,
+        Err(message) => {
+            eprintln!("compare: {message}");
+            return ExitCode::from(2);
+        }
+    };
+    if !built_in(options.group) {
+        eprintln!("compare: {:?} is not built in", options.group);
+        return ExitCode::from(2);
+    }
+    // Printed first, so that it is known even if the library never comes back.
+    println!("seed {}", options.seed);
+    let mut tally = Tally::default();
+    let outcome = compare(&options, &mut tally);
+    print!("{tally}");
+    match outcome {
+        Ok(()) => {
+            println!("no difference");
+            ExitCode::SUCCESS
+        }
+        Err(difference) => {
+            println!("difference, seed {}, {difference}", options.seed);
+            ExitCode::FAILURE
+        }
+    }
+}

@@ -1,0 +1,70 @@
+//! What the command line asks for.
+
+/// Which of the library's functions are compared.
+#[derive(Clone, Copy, Debug, PartialEq, Eq)]
+pub enum Group {
+    Book,
+    Calls,
+    Insert,
+}
+
+#[derive(Clone, Copy, Debug, PartialEq, Eq)]
+pub struct Options {
+    pub group: Group,
+    pub arrays: usize,
+    pub seed: u64,
+    /// Arrays before this one are made, but not compared.
+    pub from: usize,
+    /// Calls in sessions; as many as arrays if nothing is said.
+    pub session_calls: usize,
+    pub trace: bool,
+}
+
+pub const HELP: &str = "\
+compare book               the verdict on a book
+compare calls              setup, take, look, held and audit
+compare insert             insert, and whole sessions if calls are built in
+  --arrays N               how many arrays (1000)
+  --seed N                 the seed (1)
+  --session-calls N        how many calls in sessions (as many as arrays)
+  --from N                 compare from array number N on; those before are only made
+  --trace                  tell every call on standard error before it is made
+";
+
+/// Reads the command line, without the program's own name.
+pub fn read_options(arguments: &[String]) -> Result<Options, String> {
+    let mut words = arguments.iter();
+    let group = match words.next().map(String::as_str) {
+        Some("book") => Group::Book,
+        Some("calls") => Group::Calls,
+        Some("insert") => Group::Insert,
+        _ => return Err(format!("book, calls or insert is needed\n{HELP}")),
+    };
+    let mut options = Options {
+        group,
+        arrays: 1000,
+        seed: 1,
+        from: 0,
+        session_calls: 0,
+        trace: false,
+    };
+    let mut session_calls = None;
+    while let Some(word) = words.next() {
+        match word.as_str() {
+            "--arrays" => options.arrays = number(word, words.next())?,
+            "--seed" => options.seed = number(word, words.next())?,
+            "--from" => options.from = number(word, words.next())?,
+            "--session-calls" => session_calls = Some(number(word, words.next())?),
+            "--trace" => options.trace = true,
+            _ => return Err(format!("unknown option {word}\n{HELP}")),
+        }
+    }
+    options.session_calls = session_calls.unwrap_or(options.arrays);
+    Ok(options)
+}
+
+fn number<T: std::str::FromStr>(option: &str, value: Option<&String>) -> Result<T, String> {
+    let value = value.ok_or(format!("{option} needs a number"))?;
+    let bad = |_| format!("{option} needs a number, not {value}");
+    value.parse().map_err(bad)
+}

@@ -1,0 +1,87 @@
+//! How much was compared.
+
+use reference::array::calls::Call;
+use reference::array::generate::Kind;
+use reference::machine::Outcome;
+use std::collections::BTreeMap;
+use std::fmt::{self, Display, Formatter};
+
+#[derive(Default)]
+pub struct Tally {
+    /// For each kind, arrays whose book is refused and sound ones.
+    kinds: BTreeMap<Kind, [usize; 2]>,
+    /// For each link number in the array, arrays; 0 is a number out of range.
+    links: BTreeMap<usize, usize>,
+    answers: BTreeMap<(&'static str, u8), usize>,
+    sweeps: BTreeMap<usize, usize>,
+    packings: usize,
+    /// Calls that made merge steps, and all those steps.
+    with_steps: usize,
+    steps: u64,
+    session_calls: usize,
+}
+
+/// A call's name in the document.
+fn name(call: Call) -> &'static str {
+    match call {
+        Call::Setup(_) => "setup",
+        Call::Insert(..) => "insert",
+        Call::Take => "take",
+        Call::Look => "look",
+        Call::Held => "held",
+        Call::Audit => "audit",
+    }
+}
+
+impl Tally {
+    pub fn add_array(&mut self, kind: Kind, links: Option<usize>, sound: bool) {
+        self.kinds.entry(kind).or_default()[usize::from(sound)] += 1;
+        *self.links.entry(links.unwrap_or(0)).or_default() += 1;
+    }
+
+    pub fn add_call(&mut self, call: Call, outcome: &Outcome) {
+        let answer = (name(call), outcome.answer);
+        *self.answers.entry(answer).or_default() += 1;
+        if let Some(link) = outcome.swept_to {
+            *self.sweeps.entry(link).or_default() += 1;
+        }
+        self.packings += usize::from(outcome.packed);
+        self.with_steps += usize::from(outcome.steps > 0);
+        self.steps += outcome.steps;
+    }
+
+    pub fn add_session_call(&mut self, call: Call, outcome: &Outcome) {
+        self.add_call(call, outcome);
+        self.session_calls += 1;
+    }
+}
+
+impl Display for Tally {
+    fn fmt(&self, out: &mut Formatter) -> fmt::Result {
+        let arrays: usize = self.links.values().sum();
+        writeln!(out, "arrays {arrays}")?;
+        for (kind, [refused, sound]) in &self.kinds {
+            writeln!(out, "  {kind:?}: {sound} sound, {refused} not")?;
+        }
+        for (links, many) in &self.links {
+            writeln!(out, "  link number {links}: {many}")?;
+        }
+        let calls: usize = self.answers.values().sum();
+        if calls > 0 {
+            let in_sessions = self.session_calls;
+            writeln!(out, "calls {calls}, of them in sessions {in_sessions}")?;
+            let (with_steps, steps) = (self.with_steps, self.steps);
+            writeln!(out, "  with merge steps: {with_steps}, steps {steps}")?;
+        }
+        for ((call, answer), many) in &self.answers {
+            writeln!(out, "  {call} answered {answer}: {many}")?;
+        }
+        for (link, many) in &self.sweeps {
+            writeln!(out, "  swept to {link}: {many}")?;
+        }
+        if self.packings > 0 {
+            writeln!(out, "  packed: {}", self.packings)?;
+        }
+        Ok(())
+    }
+}

@@ -1,0 +1,187 @@
+//! The comparison against the stand-in: without a fault nothing differs, and each
+//! fault is seen by the commands named with it.
+
+use std::process::{Command, Output};
+
+fn compare(arguments: &[&str], fault: &str) -> Output {
+    Command::new(env!("CARGO_BIN_EXE_compare"))
+        .args(arguments)
+        .env("GORGALHUT_FAULT", fault)
+        .output()
+        .unwrap()
+}
+
+fn text(output: &Output) -> String {
+    String::from_utf8(output.stdout.clone()).unwrap()
+}
+
+/// Runs a command with a fault that must be seen; gives the report.
+fn seen(group: &str, fault: &str) -> String {
+    let output = compare(&[group, "--arrays", "4000", "--seed", "3"], fault);
+    let text = text(&output);
+    assert_eq!(output.status.code(), Some(1), "{group} {fault}: {text}");
+    let report = text.split("difference, seed 3, ").nth(1);
+    report
+        .unwrap_or_else(|| panic!("{group} {fault}: {text}"))
+        .to_string()
+}
+
+#[test]
+fn no_fault_no_difference() {
+    for group in ["book", "calls", "insert"] {
+        for seed in ["3", "4"] {
+            let output = compare(&[group, "--arrays", "4000", "--seed", seed], "");
+            let text = text(&output);
+            assert_eq!(output.status.code(), Some(0), "{text}");
+            assert!(text.starts_with(&format!("seed {seed}\narrays 4000\n")));
+            assert!(text.ends_with("no difference\n"), "{text}");
+        }
+    }
+}
+
+#[test]
+fn faults_of_the_verdict() {
+    for rule in [
+        "LinkNumber",
+        "Inside",
+        "Insertion",
+        "Counter",
+        "Unused",
+        "LinkTotal",
+        "Held",
+        "Mark",
+    ] {
+        let report = seen("book", &format!("rule-{rule}"));
+        assert!(report.contains("expected verdict false, got true"));
+    }
+    assert!(seen("book", "book-writes").contains("word 256 was"));
+    seen("book", "book-of-255");
+}
+
+#[test]
+fn faults_of_the_results() {
+    for (group, fault, told) in [
+        ("calls", "steps", "Take"),
+        ("insert", "steps", "Insert"),
+        ("calls", "refusal-word", "Take"),
+        ("calls", "word-unwritten", "word: bad0bad0bad0bad0"),
+        ("insert", "word-unwritten", "word: bad0bad0bad0bad0"),
+        ("calls", "held-without-i", "Held"),
+        ("calls", "audit-without-i", "Audit"),
+        ("calls", "length-last", "Take"),
+        ("insert", "packed", "Insert"),
+        ("insert", "door-first", "Insert"),
+        ("insert", "work-last", "Insert"),
+        ("insert", "full-first", "Insert"),
+    ] {
+        let report = seen(group, fault);
+        assert!(report.starts_with("array "), "{fault}: {report}");
+        assert!(report.contains("expected Got"), "{fault}: {report}");
+        assert!(report.contains(told), "{fault}: {report}");
+    }
+}
+
+#[test]
+fn faults_of_the_movements() {
+    for (group, fault) in [
+        ("calls", "take-ties"),
+        ("calls", "look-removes"),
+        ("calls", "look-unchanged"),
+        ("insert", "before-equal"),
+        ("insert", "second-sweep"),
+        ("insert", "counters"),
+        ("insert", "poured"),
+    ] {
+        let report = seen(group, fault);
+        assert!(report.contains("expected queue"), "{fault}: {report}");
+    }
+    for (fault, rule) in [("stale-mark", "Mark"), ("start-outside", "Inside")] {
+        for group in ["calls", "insert"] {
+            let report = seen(group, fault);
+            let broken = format!("book rules broken: [{rule}]");
+            assert!(report.contains(&broken), "{fault}: {report}");
+        }
+    }
+}
+
+#[test]
+fn writes_where_none_are_allowed() {
+    for (group, fault, report) in [
+        ("calls", "refusal-writes", "word "),
+        ("insert", "refusal-writes", "word "),
+        ("calls", "held-writes", "word 300 was"),
+        ("calls", "before", "written 1 words before the array"),
+        ("insert", "before", "written 1 words before the array"),
+        ("calls", "behind", "written 1 words behind the array"),
+        ("insert", "behind", "written 1 words behind the array"),
+        ("calls", "past-length", "word that stays"),
+        ("insert", "past-length", "word that stays"),
+        ("calls", "setup-clears", "word that stays"),
+        ("calls", "unused-words", "unused book word 200"),
+        ("insert", "unused-words", "unused book word 200"),
+        (
+            "insert",
+            "work-behind",
+            "written 1 words behind the work area",
+        ),
+        (
+            "insert",
+            "work-refusal",
+            "a refusal wrote into the work area",
+        ),
+    ] {
+        let found = seen(group, fault);
+        assert!(found.contains(report), "{fault}: {found}");
+    }
+}
+
+/// A fault that shows only after many calls on one array.
+#[test]
+fn faults_that_need_a_session() {
+    let report = seen("calls", "late");
+    assert!(report.starts_with("emptying session"), "{report}");
+    let output = compare(
+        &["insert", "--arrays", "0", "--session-calls", "4000"],
+        "late",
+    );
+    assert_eq!(output.status.code(), Some(1));
+    assert!(text(&output).contains(", session of "));
+}
+
+/// The same seed gives the same arrays, wherever the comparison begins.
+#[test]
+fn a_difference_is_found_again() {
+    let whole = seen("calls", "take-ties");
+    let number = whole
+        .trim_start_matches("array ")
+        .split(',')
+        .next()
+        .unwrap();
+    let arguments = ["calls", "--arrays", "4000", "--seed", "3", "--from", number];
+    let output = compare(&arguments, "take-ties");
+    let text = text(&output);
+    assert!(text.contains("arrays 0\n"), "{text}");
+    assert!(text.ends_with(&whole), "{text}");
+    let later = (number.parse::<usize>().unwrap() + 1).to_string();
+    let arguments = ["calls", "--arrays", &later, "--seed", "3", "--from", &later];
+    let output = compare(
+        &[&arguments[..], &["--session-calls", "0"]].concat(),
+        "take-ties",
+    );
+    assert_eq!(output.status.code(), Some(0));
+}
+
+#[test]
+fn bad_command_lines() {
+    for arguments in [
+        &[][..],
+        &["all"],
+        &["book", "--arrays"],
+        &["book", "--arrays", "x"],
+        &["book", "--array", "5"],
+    ] {
+        let output = compare(arguments, "");
+        assert_eq!(output.status.code(), Some(2), "{arguments:?}");
+        assert!(output.stdout.is_empty() && !output.stderr.is_empty());
+    }
+}

@@ -1,0 +1,4 @@
+pub mod Day
+pub mod Sums
+pub mod Told
+pub mod Examples
