@@ -1,1 +1,2 @@
 pub mod ReadyLaws
+pub mod HandLaws

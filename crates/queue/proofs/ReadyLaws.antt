@@ -33,7 +33,7 @@ pub tree-is : (last : ℕ) → subtree last 1 0 ≡ linksFrom 1 last
 unfolding subtree
 tree-is last = let e : suc last - 1 ≡ last = omega arith in rw e
 
-top-first : (last : ℕ) → 1 ≤ last → IsTop 1 (linksFrom 1 last)
+pub top-first : (last : ℕ) → 1 ≤ last → IsTop 1 (linksFrom 1 last)
 unfolding linksFrom
 top-first zero h = absurd (omega arith)
 top-first (suc last) h = sym first-one

@@ -4,7 +4,10 @@ ghost use Prim.Native.Nat.{ℕ, _+_, _≤_, _<_};
 ghost use Rattle.rules.specs.Entries.{wholeWord};
 ghost use Rattle.rules.specs.Tree.{linksFrom, entries};
 ghost use Rattle.rules.specs.Take.{ready, takeOne, insertion};
-ghost use Rattle.buffers.specs.Format.{buffersOf};
+ghost use mathlib.Core.List.{[], _∷_};
+ghost use lib.ListN.{getD, drop};
+ghost use Rattle.buffers.specs.Format.{buffersOf, bufferOf, markOf, startOf};
+ghost use Rattle.buffers.specs.Post.{Headed, Now, Word};
 ghost use Rattle.mergers.specs.Fills.{Did};
 ghost use Rattle.queue.specs.Heads.{CanTake, Took, sourceOf};
 use rules::Link;
@@ -56,4 +59,54 @@ pub fn smaller_head(a: &[u64], last: usize) -> Source
         return Source::First;
     }
     Source::Insertion
+}
+
+// The first entry of buffer n, whose slots begin at word `at`, leaves it.
+pub fn hand_out(a: &mut [u64], n: usize, at: usize) -> u64
+    requires { ⌜ Headed (now a) n at ⌝ }
+    ensures { λ r. ⌜ r ≡ getD (bufferOf (now (a .entry)) n) 0 0 ⌝ }
+    ensures { λ r. ⌜ Now (now (a .entry)) (now (a .exit)) n (drop 1 (bufferOf (now (a .entry)) n)) ⌝ }
+    ensures { λ r. ⌜ Word (now (a .exit)) n (markOf (now (a .entry)) n) (startOf (now (a .entry)) n + 1) ⌝ }
+{
+    let e = buffers::head(a, n, at);
+    buffers::drop_front(a, n, 1);
+    e
+}
+
+// What a take hands out, if there is anything, and the merge steps made.
+pub struct Taken {
+    pub found: bool,
+    pub entry: u64,
+    pub steps: u64,
+}
+
+// One take over I and the first links; links behind `last` count as exhausted.
+pub fn take_one(a: &mut [u64], last: usize) -> Taken
+    requires { ⌜ CanTake (now a) last ⌝ }
+    ensures { λ r. ⌜ Took (now (a .entry)) (now (a .exit)) last (takeOne wholeWord (linksFrom 1 last) (buffersOf (now (a .entry)))) (r .found) (r .entry) (r .steps) ⌝ }
+{
+    let steps = make_ready(a, last);
+    match smaller_head(a, last) {
+        Source::Neither => Taken {
+            found: false,
+            entry: 0,
+            steps,
+        },
+        Source::First => {
+            let entry = hand_out(a, 1, Link::BOOK + Link::INSERTION);
+            Taken {
+                found: true,
+                entry,
+                steps,
+            }
+        }
+        Source::Insertion => {
+            let entry = hand_out(a, 0, Link::BOOK);
+            Taken {
+                found: true,
+                entry,
+                steps,
+            }
+        }
+    }
 }
