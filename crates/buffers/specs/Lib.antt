@@ -1,3 +1,5 @@
 pub mod Slots
 pub mod Format
 pub mod Post
+pub mod Weights
+pub mod Rules

@@ -1,4 +1,6 @@
 // The lent array: its book and its slots. Only this crate knows where a word lies.
+pub mod sound;
+
 ghost use mathlib.Core.Path.{_≡_};
 ghost use mathlib.Core.List.{List, [], _∷_, _++_};
 ghost use Prim.Native.Nat.{ℕ, _+_, _*_, _≤_, _<_};
