@@ -1,2 +1,3 @@
 pub mod ReadyLaws
 pub mod HandLaws
+pub mod CheckLaws

@@ -5,11 +5,18 @@ ghost use Rattle.rules.specs.Entries.{wholeWord};
 ghost use Rattle.rules.specs.Tree.{linksFrom, entries};
 ghost use Rattle.rules.specs.Take.{ready, takeOne, insertion};
 ghost use mathlib.Core.List.{[], _∷_};
+ghost use lib.Dec.{leb};
 ghost use lib.ListN.{getD, drop};
 ghost use Rattle.buffers.specs.Format.{buffersOf, bufferOf, markOf, startOf};
 ghost use Rattle.buffers.specs.Post.{Headed, Now, Word};
 ghost use Rattle.mergers.specs.Fills.{Did};
+ghost use Rattle.rules.specs.Calls.{firstFailing, arrayChecks, _else_, Check};
+ghost use Rattle.rules.specs.Book.{sound};
+ghost use Rattle.rules.specs.Queue.{heldFrom};
+ghost use Rattle.buffers.specs.Format.{bookOf, lentOf, linksIn, many};
+ghost use Rattle.buffers.specs.Post.{Inside};
 ghost use Rattle.queue.specs.Heads.{CanTake, Took, sourceOf};
+use rules::Answer;
 use rules::Link;
 
 // Where the smaller head stands.
@@ -109,4 +116,42 @@ pub fn take_one(a: &mut [u64], last: usize) -> Taken
             }
         }
     }
+}
+
+// The checks that every call but setup makes first: 2 (296 words), 4 (link number), 2 (its words), 4 (the book).
+pub fn checked(a: &[u64]) -> Answer
+    ensures { λ r. ⌜ r ≡ firstFailing (arrayChecks (lentOf (now (a .entry))) ((sound (bookOf (now (a .entry))) else Answer.BookBroken) ∷ [])) ⌝ }
+{
+    if a.len() < 296 {
+        return Answer::ArrayShort;
+    }
+    let l = a[0];
+    if l < 1 {
+        return Answer::BookBroken;
+    }
+    if 4 < l {
+        return Answer::BookBroken;
+    }
+    if a.len() < Link::at(l as usize).words() {
+        return Answer::ArrayShort;
+    }
+    if buffers::sound::book_sound(a) {
+        return Answer::Done;
+    }
+    Answer::BookBroken
+}
+
+// How many entries the queue holds.
+pub fn held_now(a: &[u64], links: usize) -> u64
+    requires { ⌜ Inside (now a) × (links ≡ linksIn (now a)) ⌝ }
+    ensures { λ r. ⌜ r ≡ heldFrom 0 (many (now (a .entry))) (buffersOf (now (a .entry))) ⌝ }
+{
+    let end = Link::at(links + 1).first();
+    let mut sum: u64 = 0;
+    let mut n: usize = 0;
+    while n < end {
+        sum = sum + buffers::count(a, n) as u64;
+        n = n + 1;
+    }
+    sum
 }

@@ -1,0 +1,4 @@
+pub mod Lines
+pub mod Cutter
+pub mod Answers
+pub mod Examples
