@@ -1,3 +1,4 @@
 pub mod ReadyLaws
 pub mod HandLaws
 pub mod CheckLaws
+pub mod BookLaws
