@@ -20,7 +20,7 @@ use Rattle.rules.specs.Take.{Taken, ready, takeOne, handOut, insertion}
 use Rattle.rules.proofs.Numbers.{Stands}
 use Rattle.rules.proofs.Numbering.{links-range}
 use Rattle.rules.proofs.Sizes.{first-one, first-mono}
-use Rattle.buffers.specs.Format.{linksIn, wordOf, countOf, startOf, markOf, markIn, many, bufferOf, buffersOf}
+use Rattle.buffers.specs.Format.{linksIn, wordOf, countOf, startOf, markOf, countIn, markIn, many, bufferOf, buffersOf}
 use Rattle.buffers.specs.Post.{Inside, Has, Only, Now, Kept, Word, Headed}
 use Rattle.buffers.proofs.ArrayLaws.{has, buffer-length, buffers-at, buffers-length, only-word, only-kept, kept-links, kept-then}
 use Rattle.mergers.specs.Fills.{MarksRight, StandsIn, Did}
@@ -93,12 +93,16 @@ module _ (ws : List ℕ) (last : ℕ) (h : CanTake ws last) (ws₁ : List ℕ) (
   unfolding takeOne
   taken-is s e = rw (← d .state, e)
 
+  -- I stands outside the tree
+  word-of-I : wordOf ws₁ 0 ≡ wordOf ws 0
+  word-of-I = d .others 0 (insertion-has ws last h .below) (λ s. let low = links-range 1 last (omega arith) (in-stands 0 t s) .0 in absurd (omega (arith, first-one)))
+
   -- nothing is held there
   pub took-none : Neither ≡ sourceOf xs ys → Took ws ws₁ last (takeOne wholeWord t (buffersOf ws)) false 0 steps
   unfolding handOut
   took-none e =
       rw (taken-is stop (neither-says xs ys e))
-      record { array = d .array; out = refl; state = d .state; count = d .count; marks = d .marks; kept = d .kept; others = λ n lt differ out. d .others n lt out }
+      record { array = d .array; out = refl; state = d .state; count = d .count; marks = d .marks; kept = d .kept; none = λ e. refl; mark-of-I = ap markIn word-of-I; fewer-in-I = rw word-of-I (omega arith); others = λ n lt differ out. d .others n lt out }
 
   stands-below : (m : ℕ) → Stands m t → m < many ws₁
   unfolding bufferCount
@@ -160,6 +164,9 @@ module _ (ws : List ℕ) (last : ℕ) (h : CanTake ws last) (ws₁ : List ℕ) (
           count = d .count;
           marks = marks-dropped 1 of ws₂ z w;
           kept = kept-both 1 of ws₂ z w;
+          none = λ e. let z : _≡_ {A = ℕ} 0 1 = cc in absurd (omega arith);
+          mark-of-I = ap markIn (only-word ws₁ ws₂ 1 of (z .only) 0 (insertion-has ws₁ last can-now .below) (omega arith) ∙ word-of-I);
+          fewer-in-I = rw (only-word ws₁ ws₂ 1 of (z .only) 0 (insertion-has ws₁ last can-now .below) (omega arith), word-of-I) (omega arith);
           others = others-both 1 of ws₂ z w (inr (stands-in (top-stands 1 t top)));
         }
 
@@ -186,5 +193,12 @@ module _ (ws : List ℕ) (last : ℕ) (h : CanTake ws last) (ws₁ : List ℕ) (
           count = d .count;
           marks = marks-dropped 0 of ws₂ z w;
           kept = kept-both 0 of ws₂ z w;
+          none = λ e. let z : _≡_ {A = ℕ} 0 1 = cc in absurd (omega arith);
+          mark-of-I = w .mark ∙ ap markIn word-of-I;
+          fewer-in-I =
+              let lt₂ : 0 < many ws₂ = rw (kept-links (only-kept ws₁ ws₂ 0 of (z .only))) (of .below) in
+              let now-I : countOf ws₂ 0 ≡ length (getD (buffersOf ws₂) 0 []) = sym (ap length (buffers-at ws₂ 0 lt₂) ∙ buffer-length ws₂ 0 (has ws₂ 0 (z .array) lt₂)) in
+              let was-I : countOf ws₁ 0 ≡ length (getD (buffersOf ws₁) 0 []) = sym (ap length (buffers-at ws₁ 0 (of .below)) ∙ buffer-length ws₁ 0 of) in
+              omega (arith, no-longer 0 of ws₂ z w 0 (yes refl), ap countIn word-of-I);
           others = others-both 0 of ws₂ z w (inl refl);
         }

@@ -11,7 +11,7 @@ use Rattle.queue.specs.declared.Source.the-variants.{Neither, First, Ins
 use Rattle.rules.specs.Entries.{wholeWord}
 use Rattle.rules.specs.Tree.{Buffers, Tree, linksFrom}
 use Rattle.rules.specs.Take.{Taken}
-use Rattle.buffers.specs.Format.{linksIn, wordOf, many, buffersOf}
+use Rattle.buffers.specs.Format.{linksIn, wordOf, countOf, markOf, many, buffersOf}
 use Rattle.buffers.specs.Post.{Inside, Kept}
 use Rattle.mergers.specs.Fills.{MarksRight, StandsIn}
 
@@ -41,4 +41,7 @@ pub record Took (ws ws′ : List ℕ) (last : ℕ) (z : Taken) (found : Bool) (e
   pub count : steps ≡ z .steps
   pub marks : MarksRight ws′ (linksFrom 1 last)
   pub kept : Kept ws ws′
+  pub none : found ≡ false → entry ≡ 0
+  pub mark-of-I : markOf ws′ 0 ≡ markOf ws 0
+  pub fewer-in-I : countOf ws′ 0 ≤ countOf ws 0
   pub others : (n : ℕ) → n < many ws → n ≢ 0 → (StandsIn n (linksFrom 1 last) → ⊥) → wordOf ws′ n ≡ wordOf ws n
