@@ -222,11 +222,11 @@ module _ (ws below : List ℕ) (i k′ f′ s′ : ℕ) (q : Counted ws below i 
     used-wrong bad =
         no-room ws below i (q .of) below₁ (used .sized) (⊎-elim (wrong-S k′ end (omega arith) (omega (arith, q .few))) (λ o. absurd (let z = o .is in omega arith)) (used .wrong bad))
 
-    module _ (good : r₁ ≡ true) (below₂ : List ℕ) (r₂ : Bool) (unused : Stretched ws below₁ below₂ f′ end (2 * k′) s′ 0 r₂) where
+    module _ (good : r₁ ≡ true) (below₂ : List ℕ) (many : ℕ) (r₂ : Bool) (unused : Stretched ws below₁ below₂ f′ end (2 * k′) s′ many r₂) where
       spare-is : countsFrom ws (f′ + end) (2 * k′ - end) ≡ spare ws i
       spare-is = ap (λ n. countsFrom ws (f′ + (n + (counterIn ws i - 1))) (2 * n - (n + (counterIn ws i - 1)))) (q .k-is) ∙ ap (λ n. countsFrom ws (n + (k i + (counterIn ws i - 1))) (2 * k i - (k i + (counterIn ws i - 1)))) (q .first-is)
 
-      held-S : Over ws f′ end (2 * k′) 0 → room ws i ≤ weight ws (kMerger i)
+      held-S : Over ws f′ end (2 * k′) many → room ws i ≤ weight ws (kMerger i)
       held-S o =
           omega (
             arith,
@@ -237,7 +237,7 @@ module _ (ws below : List ℕ) (i k′ f′ s′ : ℕ) (q : Counted ws below i 
       pub unused-wrong : r₂ ≡ false → RoomLeft ws below₂ i 0
       unused-wrong bad = no-room ws below i (q .of) below₂ (unused .sized) (⊎-elim (wrong-S end (2 * k′) (omega arith) (omega arith)) held-S (unused .wrong bad))
 
-      module _ (good₂ : r₂ ≡ true) where
+      module _ (good₂ : r₂ ≡ true) (none : many ≡ 0) where
         stored : Stored ws below₂ i
         stored = record { weighed = λ m h g. at m (omega (arith, q .k-is)) (omega (arith, q .k-is)) (decLt m end) ∙ ap (λ n. weigh (wordOf ws (n + m)) s′ 0) (q .first-is) ∙ ap (λ n. weigh (wordOf ws (first i + m)) n 0) (q .s-is) }
           where
@@ -248,7 +248,7 @@ module _ (ws below : List ℕ) (i k′ f′ s′ : ℕ) (q : Counted ws below i 
         none-spare : spare ws i ≡ 0
         none-spare =
             sym spare-is ∙ none-counts ws (f′ + end) (2 * k′ - end)
-            (λ n h g. at n (n - f′) (omega arith) (unused .few good₂ (n - f′) (omega arith) (omega arith)))
+            (λ n h g. at n (n - f′) (omega arith) (omega (arith, unused .few good₂ (n - f′) (omega arith) (omega arith))))
           where
             at : (n m : ℕ) → f′ + m ≡ n → countOf ws (f′ + m) ≤ 0 → countOf ws n ≡ 0
             at n m e h = let z : countOf ws n ≤ 0 = rw e at h in omega arith

@@ -2,3 +2,4 @@ pub mod ReadyLaws
 pub mod HandLaws
 pub mod CheckLaws
 pub mod BookLaws
+pub mod CallLaws

@@ -26,7 +26,7 @@ returns-3 : tie.Need-returns-3
 returns-3 c =
     let d = c .before .before .before in
     let number : LinkNumber (linksIn (d .before .before .before .before .args .a .now)) = record { low = d .before .if1 .left; high = d .if2 .left } in
-    sym (eight-inserted _ number _ (c .before .weigh .ensures) (c .if3 .taken)) ∙ exact _
+    sym (eight-inserted _ number _ (c .before .weigh .ensures) (omega arith)) ∙ exact _
 
 links-requires : tie.Need-links-requires
 links-requires c κs = search needs
@@ -45,7 +45,7 @@ returns-4 c =
     let e = c .before .before .before .before in
     let d = e .before .before .before in
     let number : LinkNumber (linksIn (d .before .before .before .before .args .a .now)) = record { low = d .before .if1 .left; high = d .if2 .left } in
-    sym (all-weighed _ number _ (e .before .weigh .ensures) (e .if3 .left) _ _ (c .before .before .links .ensures .is) (c .most .ensures ∙ ap most (c .before .at .ensures))) ∙ exact _
+    sym (all-weighed _ number _ (e .before .weigh .ensures) (omega arith) _ _ (c .before .before .links .ensures .is) (c .most .ensures ∙ ap most (c .before .at .ensures))) ∙ exact _
 
 pub book-sound-spec : {M : Type 1} → statement M
 book-sound-spec =

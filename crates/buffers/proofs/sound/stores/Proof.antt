@@ -83,7 +83,7 @@ stretch-requires-2 c κs = ask-unused _ _ _ _ _ _ (counted (c .before .before .b
 returns-4 : tie.Need-returns-4
 returns-4 c =
     let h = c .before .before .before in
-    unused-wrong _ _ _ _ _ _ (counted (h .before .before .before)) _ _ (h .before .stretch .ensures) (not-false _ (h .if3 .left)) _ _ (c .before .stretch2 .ensures) (not-true _ (c .if4 .taken))
+    unused-wrong _ _ _ _ _ _ (counted (h .before .before .before)) _ _ (h .before .stretch .ensures) (not-false _ (h .if3 .left)) _ _ _ (c .before .stretch2 .ensures) (not-true _ (c .if4 .taken))
 
 mul-result : tie.Need-mul-result
 mul-result c = let few = room-fits _ _ _ _ _ _ (counted (c .before .before .before .before .before .before)) in record { fits = omega arith }
@@ -94,7 +94,7 @@ add-result c = let few = room-fits _ _ _ _ _ _ (counted (c .before .before .befo
 returns-5 : tie.Need-returns-5
 returns-5 c =
     let h = c .before .before .before in
-    all-stored _ _ _ _ _ _ (counted (h .before .before .before)) _ _ (h .before .stretch .ensures) (not-false _ (h .if3 .left)) _ _ (c .before .stretch2 .ensures) (not-false _ (c .if4 .left))
+    all-stored _ _ _ _ _ _ (counted (h .before .before .before)) _ _ (h .before .stretch .ensures) (not-false _ (h .if3 .left)) _ _ _ (c .before .stretch2 .ensures) (not-false _ (c .if4 .left)) (omega arith)
 
 pub stores-spec : {M : Type 1} → statement M
 stores-spec =

@@ -1,0 +1,3 @@
+pub mod AscentLaws
+pub mod WalkLaws
+pub mod RuleLaws
