@@ -5,7 +5,7 @@ use mathlib.Core.Logic.{_≢_}
 use mathlib.Core.Bool.{Bool, true, false, not}
 use mathlib.Core.List.{List, [], _∷_, map}
 use native.Mathlib.Omega.{arith}
-use borrow.Author.Tests.{eq-eqb, eqb-true}
+use borrow.Author.Tests.{le-leb, eq-eqb, eqb-true}
 use lib.Dec.{T, T-not, eqb, leb, ltb}
 use lib.ListN.{length, getD}
 use Rattle.rules.specs.declared.Answer.{Answer}
@@ -30,6 +30,7 @@ use Rattle.buffers.proofs.Exact.{sound-inside, count-is, mark-is}
 use Rattle.mergers.specs.Fills.{MarksRight}
 use Rattle.queue.specs.Heads.{CanTake, Took, oneIf}
 use Rattle.queue.specs.Calls.{Called}
+use Rattle.queue.proofs.CheckLaws.{shortest}
 use Rattle.queue.proofs.BookLaws.{describes, shaped, marks-right, sound-after}
 
 -- ---- answers
@@ -183,3 +184,129 @@ same-queue ws ws′ bs array kept e =
     let counters : map (counterIn ws′) (from 1 (linksIn ws′)) ≡ map (counterIn ws) (from 1 (linksIn ws)) =
     rw links (each-same (counterIn ws′) (counterIn ws) 1 (linksIn ws) (λ m lt. kept .front m (omega (arith, array .link .high)))) in
     λ p. record { links = links p; counters = counters p; buffers = e p }
+
+-- ---- outcomes
+
+-- "Every refusal changes nothing"
+refused-called : (ws : List ℕ) (o : Outcome) (x : Answer) → isDone x ≡ false → o ≡ refused x (queueOf (lentOf ws)) → Called ws ws o x 0 0 false
+unfolding refused
+refused-called ws o x f e =
+    record {
+      answer-is = sym (ap (λ (z : Outcome). z .answer) e);
+      word-is = sym (ap (λ (z : Outcome). z .word) e);
+      steps-are = sym (ap (λ (z : Outcome). z .steps) e);
+      packed-is = sym (ap (λ (z : Outcome). z .packed) e);
+      refused = λ g. refl;
+      queue-is = λ g. absurd (unlike (sym g ∙ f));
+      sound-is = λ g. absurd (unlike (sym g ∙ f));
+    }
+
+-- the same of an outcome with these parts
+pub told : (ws ws′ : List ℕ) (o : Outcome) (x answer : Answer) (word steps : ℕ) (packed : Bool) → answer ≡ x → word ≡ 0 → steps ≡ 0 → packed ≡ false → Called ws ws′ o x 0 0 false → Called ws ws′ o answer word steps packed
+told ws ws′ o x answer word steps packed a w s p z = rw (a, w, s, p) z
+
+-- "every accepted call leaves a book that keeps all book rules"
+accepted-called : (ws ws′ : List ℕ) (o : Outcome) (word steps : ℕ) → o .answer ≡ Done → word ≡ o .word → steps ≡ o .steps → o .packed ≡ false → queueOf (lentOf ws′) ≡ o .queue → sound (bookOf ws′) ≡ true
+    → Called ws ws′ o Done word steps false
+accepted-called ws ws′ o word steps a w s p q b =
+    record { answer-is = sym a; word-is = w; steps-are = s; packed-is = sym p; refused = λ g. absurd (unlike (sym (done-is ws) ∙ g)); queue-is = λ g. q; sound-is = λ g. b }
+
+the-one : (found : Bool) (entry : ℕ) (out : List ℕ) → oneIf found entry ≡ out → (found ≡ false → entry ≡ 0) → entry ≡ theEntry out
+unfolding theEntry
+the-one true entry out e none = ap theEntry e
+the-one false entry out e none = none refl ∙ ap theEntry e
+
+module _ (ws : List ℕ) (x : Answer) (x-is : x ≡ firstFailing (takeChecks (lentOf ws))) where
+  pub take-refused : numberOf x ≢ 0 → Called ws ws (take (lentOf ws)) x 0 0 false
+  unfolding take
+  take-refused differ =
+      refused-called ws (take (lentOf ws)) x (not-done x differ)
+      (refused-is (firstFailing (takeChecks (lentOf ws))) (queueOf (lentOf ws)) (take-accepted ws) (ap isDone (sym x-is) ∙ not-done x differ) ∙ ap (λ z. refused z (queueOf (lentOf ws))) (sym x-is))
+
+  module _ (none-fails : numberOf x ≡ 0) where
+    all-hold : isDone (firstFailing (takeChecks (lentOf ws))) ≡ true
+    all-hold = ap isDone (sym x-is) ∙ done x none-fails
+
+    may : MayTake (lentOf ws)
+    may = may-take ws all-hold
+
+    pub may-can : CanTake ws (linksIn ws)
+    may-can = can-take ws (may .long) (may .holds)
+
+    -- the book is sound afterwards
+    module _ (ws′ : List ℕ) (array : Inside ws′) (kept : Kept ws ws′) (marks : MarksRight ws′ (linksFrom 1 (linksIn ws))) (mark-of-I : markOf ws′ 0 ≡ markOf ws 0) (fewer-in-I : countOf ws′ 0 ≤ countOf ws 0) where
+      sound-still : rules.Kept 7 (queueOf (lentOf ws′)) → sound (bookOf ws′) ≡ true
+      unfolding treeOf
+      sound-still k =
+          sound-after ws′ array k (rw (kept-links kept) marks)
+          (λ e. let none = insertion-mark ws (may .long) (may .holds) (sym mark-of-I ∙ e) in omega (arith, fewer-in-I))
+
+    pub take-called : (ws′ : List ℕ) (found : Bool) (entry steps : ℕ) → Took ws ws′ (linksIn ws) (takeOne wholeWord (linksFrom 1 (linksIn ws)) (buffersOf ws)) found entry steps → Called ws ws′ (take (lentOf ws)) Done entry steps false
+    unfolding keyOf treeOf queueOf lentOf bookOf
+    take-called ws′ found entry steps z =
+        let o = take-is ws all-hold in
+        let array = inside ws (may .long) (may .holds) in
+        let after : queueOf (lentOf ws′) ≡ withBuffers (queueOf (lentOf ws)) (taken ws .buffers) = same-queue ws ws′ (taken ws .buffers) array (z .kept) (z .state) in
+        let k = take-kept 7 (queueOf (lentOf ws)) (shaped ws array) (kept-now ws (may .long) (may .holds)) in
+        accepted-called ws ws′ (take (lentOf ws)) entry steps
+        (ap (λ (r : Outcome). r .answer) o)
+        (the-one found entry (taken ws .out) (z .out) (z .none) ∙ sym (ap (λ (r : Outcome). r .word) o))
+        (z .count ∙ sym (ap (λ (r : Outcome). r .steps) o))
+        (ap (λ (r : Outcome). r .packed) o)
+        (after ∙ sym (ap (λ (r : Outcome). r .queue) o))
+        (sound-still ws′ (z .array) (z .kept) (z .marks) (z .mark-of-I) (z .fewer-in-I) (subst (rules.Kept 7) (sym after) k))
+
+    pub take-some-words : 0 < length ws
+    unfolding lentOf
+    take-some-words = omega (arith, may .long .shortest, shortest ws [])
+
+-- ---- held, and the checks of take and look
+
+module _ (ws : List ℕ) (x : Answer) (x-is : x ≡ common ws) where
+  pub held-refused : numberOf x ≢ 0 → Called ws ws (heldCall (lentOf ws)) x 0 0 false
+  unfolding heldCall lentOf
+  held-refused differ =
+      refused-called ws (heldCall (lentOf ws)) x (not-done x differ)
+      (refused-is (common ws) (queueOf (lentOf ws)) (held-accepted ws) (ap isDone (sym x-is) ∙ not-done x differ) ∙ ap (λ z. refused z (queueOf (lentOf ws))) (sym x-is))
+
+  module _ (none-fails : numberOf x ≡ 0) where
+    book-holds : isDone (common ws) ≡ true
+    book-holds = ap isDone (sym x-is) ∙ done x none-fails
+
+    may-now : Long (lentOf ws) × T (sound (lentOf ws .book))
+    may-now = may-hold ws book-holds
+
+    pub some-words : 0 < length ws
+    unfolding lentOf
+    some-words = omega (arith, may-now .0 .shortest, shortest ws [])
+
+    pub held-inside : Inside ws
+    held-inside = inside ws (may-now .0) (may-now .1)
+
+    module _ (n : ℕ) (n-is : n ≡ heldFrom 0 (many ws) (buffersOf ws)) where
+      pub held-called : Called ws ws (heldCall (lentOf ws)) Done n 0 false
+      unfolding held queueOf lentOf bookOf
+      held-called =
+          let o = held-is ws book-holds in
+          accepted-called ws ws (heldCall (lentOf ws)) n 0
+          (ap (λ (r : Outcome). r .answer) o)
+          (n-is ∙ sym (ap (λ (r : Outcome). r .word) o))
+          (sym (ap (λ (r : Outcome). r .steps) o))
+          (ap (λ (r : Outcome). r .packed) o)
+          (sym (ap (λ (r : Outcome). r .queue) o))
+          (book-right ws (may-now .0) (may-now .1))
+
+      last-check : (b : Bool) → ltb 0 n ≡ b → firstFailing (takeChecks (lentOf ws)) ≡ elim b [ true ↦ Done | false ↦ NoneHeld ]
+      unfolding firstFailing held queueOf lentOf bookOf
+      last-check b e = passed ws x x-is none-fails ∙ ap (λ m. firstFailing ((ltb 0 m else NoneHeld) ∷ [])) (sym n-is) ∙ ap (λ t. firstFailing ((t else NoneHeld) ∷ [])) e
+
+      -- "6 | nothing held"
+      pub none-is : n ≡ 0 → NoneHeld ≡ firstFailing (takeChecks (lentOf ws))
+      none-is e = sym (last-check false (ap (ltb 0) e))
+
+      pub some-is : n ≢ 0 → Done ≡ firstFailing (takeChecks (lentOf ws))
+      some-is differ = sym (last-check true (go n differ))
+        where
+          go : (m : ℕ) → m ≢ 0 → ltb 0 m ≡ true
+          go zero d = absurd (d refl)
+          go (suc m) d = le-leb 1 (suc m) (omega arith)

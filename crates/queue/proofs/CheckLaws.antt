@@ -31,7 +31,7 @@ module _ (ws : List ℕ) (checks : List Check) where
   unfolding firstFailing arrayChecks lentOf bookOf
   answer-now t u v p q r = λ i. firstFailing ((p i else ArrayShort) ∷ (q i else BookBroken) ∷ (r i else ArrayShort) ∷ checks)
 
-  shortest : words 1 ≡ 296
+  pub shortest : words 1 ≡ 296
   shortest = sym (words-at 1 tt refl tt)
 
   pub too-short : length ws < 296 → ArrayShort ≡ firstFailing (arrayChecks (lentOf ws) checks)

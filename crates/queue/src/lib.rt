@@ -10,12 +10,15 @@ ghost use lib.ListN.{getD, drop};
 ghost use Rattle.buffers.specs.Format.{buffersOf, bufferOf, markOf, startOf};
 ghost use Rattle.buffers.specs.Post.{Headed, Now, Word};
 ghost use Rattle.mergers.specs.Fills.{Did};
-ghost use Rattle.rules.specs.Calls.{firstFailing, arrayChecks, _else_, Check};
+ghost use Rattle.rules.specs.Calls.{firstFailing, arrayChecks, takeChecks, _else_, Check};
+ghost use Rattle.rules.specs.Calls as rules;
+ghost use mathlib.Core.Bool.{true, false};
 ghost use Rattle.rules.specs.Book.{sound};
 ghost use Rattle.rules.specs.Queue.{heldFrom};
 ghost use Rattle.buffers.specs.Format.{bookOf, lentOf, linksIn, many};
 ghost use Rattle.buffers.specs.Post.{Inside};
 ghost use Rattle.queue.specs.Heads.{CanTake, Took, sourceOf};
+ghost use Rattle.queue.specs.Calls.{Called};
 use rules::Answer;
 use rules::Link;
 
@@ -154,4 +157,76 @@ pub fn held_now(a: &[u64], links: usize) -> u64
         n = n + 1;
     }
     sum
+}
+
+// What a call answers.
+pub struct Outcome {
+    pub answer: Answer,
+    pub word: u64,
+    pub steps: u64,
+    pub packed: bool,
+}
+
+// A refusal gives its number, a zero word and zero steps.
+pub fn refusal(answer: Answer) -> Outcome
+    ensures { λ r. ⌜ r .answer ≡ answer ⌝ }
+    ensures { λ r. ⌜ r .word ≡ 0 ⌝ }
+    ensures { λ r. ⌜ r .steps ≡ 0 ⌝ }
+    ensures { λ r. ⌜ r .packed ≡ false ⌝ }
+{
+    Outcome {
+        answer,
+        word: 0,
+        steps: 0,
+        packed: false,
+    }
+}
+
+// The checks of take and look: those of every call, then 6.
+pub fn checked_for_take(a: &[u64]) -> Answer
+    ensures { λ r. ⌜ r ≡ firstFailing (takeChecks (lentOf (now (a .entry)))) ⌝ }
+{
+    let found = checked(a);
+    if rules::number_of(found) != 0 {
+        return found;
+    }
+    if held_now(a, a[0] as usize) == 0 {
+        return Answer::NoneHeld;
+    }
+    Answer::Done
+}
+
+// Takes the smallest entry held.
+pub fn take(a: &mut [u64]) -> Outcome
+    ensures { λ r. ⌜ Called (now (a .entry)) (now (a .exit)) (rules.take (lentOf (now (a .entry)))) (r .answer) (r .word) (r .steps) (r .packed) ⌝ }
+{
+    let found = checked_for_take(a);
+    if rules::number_of(found) != 0 {
+        return refusal(found);
+    }
+    let links = a[0] as usize;
+    let t = take_one(a, links);
+    Outcome {
+        answer: Answer::Done,
+        word: t.entry,
+        steps: t.steps,
+        packed: false,
+    }
+}
+
+// Says how many entries are held.
+pub fn held(a: &[u64]) -> Outcome
+    ensures { λ r. ⌜ Called (now (a .entry)) (now (a .entry)) (rules.heldCall (lentOf (now (a .entry)))) (r .answer) (r .word) (r .steps) (r .packed) ⌝ }
+{
+    let found = checked(a);
+    if rules::number_of(found) != 0 {
+        return refusal(found);
+    }
+    let word = held_now(a, a[0] as usize);
+    Outcome {
+        answer: Answer::Done,
+        word,
+        steps: 0,
+        packed: false,
+    }
 }
