@@ -13,24 +13,27 @@ use Rattle.rules.specs.declared.Answer.the-variants.{Done, ArrayShort, BookBrok
 use Rattle.rules.specs.Answers.{numberOf, isDone}
 use Rattle.rules.specs.Entries.{wholeWord}
 use Rattle.rules.specs.Links.{from, words}
-use Rattle.rules.specs.Tree.{Buffers, Tree, treeOf, linksFrom}
-use Rattle.rules.specs.Take.{Taken, takeOne, ready}
+use Rattle.rules.specs.Tree.{Buffers, Tree, entries, treeOf, linksFrom}
+use Rattle.rules.specs.Merge.{Step, stop, move, mergeStep}
+use Rattle.rules.specs.Fill.{Filled}
+use Rattle.rules.specs.Take.{Taken, takeOne, ready, handOut, insertion}
 use Rattle.rules.specs.Queue.{Queue, keyOf, held, heldFrom}
 use Rattle.rules.specs.Book.{isLinkNumber, sound, marked, count}
-use Rattle.rules.specs.Calls.{Lent, Outcome, Check, _else_, firstFailing, refused, unless, arrayChecks, takeChecks, queueOf, withBuffers, theEntry, take, heldCall}
+use Rattle.rules.specs.Calls.{Lent, Outcome, Check, _else_, firstFailing, refused, unless, arrayChecks, takeChecks, queueOf, withBuffers, theEntry, take, look, heldCall}
 use Rattle.rules.proofs.BookLaws as rules
 use Rattle.rules.proofs.BookKept.{take-kept, look-kept}
 use Rattle.rules.proofs.Accepted.{Long, MayTake, Refusal, take-cases, held-cases}
-use Rattle.buffers.specs.Format.{linksIn, countOf, markOf, counterIn, many, bookOf, lentOf, buffersOf}
+use Rattle.buffers.specs.Format.{linksIn, countOf, markOf, markIn, counterIn, many, bookOf, lentOf, buffersOf}
 use Rattle.buffers.specs.Post.{Inside, Kept}
 use Rattle.buffers.proofs.ArrayLaws.{has, kept-links, kept-none}
 use Rattle.buffers.proofs.SlotLaws.{some}
 use Rattle.buffers.proofs.RuleLaws.{sound-rules}
 use Rattle.buffers.proofs.Exact.{sound-inside, count-is, mark-is}
-use Rattle.mergers.specs.Fills.{MarksRight}
-use Rattle.queue.specs.Heads.{CanTake, Took, oneIf}
+use Rattle.mergers.specs.Fills.{MarksRight, Did}
+use Rattle.queue.specs.Heads.{CanTake, Took, oneIf, headIn}
 use Rattle.queue.specs.Calls.{Called}
 use Rattle.queue.proofs.CheckLaws.{shortest}
+use Rattle.queue.proofs.HandLaws.{taken-is, word-of-I}
 use Rattle.queue.proofs.BookLaws.{describes, shaped, marks-right, sound-after}
 
 -- ---- answers
@@ -157,6 +160,14 @@ module _ (ws : List ℕ) where
       take-cases (lentOf ws) (λ o. T (isDone (o .answer)) → MayTake (lentOf ws)) (λ answer r t. absurd (T-not (isDone answer) (r .not-done) t)) (λ m t. m)
       (subst T (sym (ap (λ (o : Outcome). isDone (o .answer)) (take-is e) ∙ done-is)) tt)
 
+  abbrev look-accepted : Outcome
+  look-accepted =
+      record { answer = Done; word = theEntry (taken .out); steps = taken .steps; packed = false; queue = withBuffers (queueOf (lentOf ws)) (ready (keyOf (queueOf (lentOf ws))) (treeOf (queueOf (lentOf ws) .links)) (queueOf (lentOf ws) .buffers) .buffers) }
+
+  look-is : isDone (firstFailing (takeChecks (lentOf ws))) ≡ true → look (lentOf ws) ≡ look-accepted
+  unfolding look
+  look-is e = accepted-is (firstFailing (takeChecks (lentOf ws))) (queueOf (lentOf ws)) look-accepted e
+
   abbrev held-accepted : Outcome
   held-accepted = record { answer = Done; word = held (queueOf (lentOf ws)); steps = 0; packed = false; queue = queueOf (lentOf ws) }
 
@@ -216,12 +227,28 @@ unfolding theEntry
 the-one true entry out e none = ap theEntry e
 the-one false entry out e none = none refl ∙ ap theEntry e
 
+head-out : (t : Tree) (step : Step) (now : Filled) → theEntry (handOut t step now .out) ≡ headIn step
+unfolding theEntry handOut headIn
+head-out t stop now = refl
+head-out t (move e xs ys) now = refl
+
+steps-out : (t : Tree) (step : Step) (now : Filled) → handOut t step now .steps ≡ now .steps
+unfolding handOut
+steps-out t stop now = refl
+steps-out t (move e xs ys) now = refl
+
 module _ (ws : List ℕ) (x : Answer) (x-is : x ≡ firstFailing (takeChecks (lentOf ws))) where
   pub take-refused : numberOf x ≢ 0 → Called ws ws (take (lentOf ws)) x 0 0 false
   unfolding take
   take-refused differ =
       refused-called ws (take (lentOf ws)) x (not-done x differ)
       (refused-is (firstFailing (takeChecks (lentOf ws))) (queueOf (lentOf ws)) (take-accepted ws) (ap isDone (sym x-is) ∙ not-done x differ) ∙ ap (λ z. refused z (queueOf (lentOf ws))) (sym x-is))
+
+  pub look-refused : numberOf x ≢ 0 → Called ws ws (look (lentOf ws)) x 0 0 false
+  unfolding look
+  look-refused differ =
+      refused-called ws (look (lentOf ws)) x (not-done x differ)
+      (refused-is (firstFailing (takeChecks (lentOf ws))) (queueOf (lentOf ws)) (look-accepted ws) (ap isDone (sym x-is) ∙ not-done x differ) ∙ ap (λ z. refused z (queueOf (lentOf ws))) (sym x-is))
 
   module _ (none-fails : numberOf x ≡ 0) where
     all-hold : isDone (firstFailing (takeChecks (lentOf ws))) ≡ true
@@ -255,6 +282,27 @@ module _ (ws : List ℕ) (x : Answer) (x-is : x ≡ firstFailing (takeChecks (le
         (ap (λ (r : Outcome). r .packed) o)
         (after ∙ sym (ap (λ (r : Outcome). r .queue) o))
         (sound-still ws′ (z .array) (z .kept) (z .marks) (z .mark-of-I) (z .fewer-in-I) (subst (rules.Kept 7) (sym after) k))
+
+    pub look-called : (ws′ : List ℕ) (word steps : ℕ) → Did ws ws′ (linksFrom 1 (linksIn ws)) (ready wholeWord (linksFrom 1 (linksIn ws)) (buffersOf ws)) steps
+        → word ≡ headIn (mergeStep wholeWord (entries (linksFrom 1 (linksIn ws)) (buffersOf ws′)) (insertion (buffersOf ws′))) → Called ws ws′ (look (lentOf ws)) Done word steps false
+    unfolding keyOf treeOf queueOf lentOf bookOf
+    look-called ws′ word steps d w =
+        let o = look-is ws all-hold in
+        let array = inside ws (may .long) (may .holds) in
+        let t = linksFrom 1 (linksIn ws) in
+        let now = ready wholeWord t (buffersOf ws) in
+        let step = mergeStep wholeWord (entries t (buffersOf ws′)) (insertion (buffersOf ws′)) in
+        let same : taken ws ≡ handOut t step now = taken-is ws (linksIn ws) may-can ws′ steps d step refl in
+        let I-word = word-of-I ws (linksIn ws) may-can ws′ steps d in
+        let after : queueOf (lentOf ws′) ≡ withBuffers (queueOf (lentOf ws)) (now .buffers) = same-queue ws ws′ (now .buffers) array (d .kept) (d .state) in
+        let k = look-kept 7 (queueOf (lentOf ws)) (shaped ws array) (kept-now ws (may .long) (may .holds)) in
+        accepted-called ws ws′ (look (lentOf ws)) word steps
+        (ap (λ (r : Outcome). r .answer) o)
+        (w ∙ sym (head-out t step now) ∙ sym (ap (λ (z : Taken). theEntry (z .out)) same) ∙ sym (ap (λ (r : Outcome). r .word) o))
+        (d .count ∙ sym (steps-out t step now) ∙ sym (ap (λ (z : Taken). z .steps) same) ∙ sym (ap (λ (r : Outcome). r .steps) o))
+        (ap (λ (r : Outcome). r .packed) o)
+        (after ∙ sym (ap (λ (r : Outcome). r .queue) o))
+        (sound-still ws′ (d .array) (d .kept) (d .marks) (ap markIn I-word) (rw I-word (omega arith)) (subst (rules.Kept 7) (sym after) k))
 
     pub take-some-words : 0 < length ws
     unfolding lentOf

@@ -26,7 +26,7 @@ use Rattle.buffers.proofs.ArrayLaws.{has, buffer-length, buffers-at, buffers-le
 use Rattle.mergers.specs.Fills.{MarksRight, StandsIn, Did}
 use Rattle.mergers.proofs.RunLaws.{put-entries}
 use Rattle.mergers.proofs.FillLaws.{in-stands, stands-in, top-put, top-stands, marks-less}
-use Rattle.queue.specs.Heads.{sourceOf, CanTake, oneIf, Took}
+use Rattle.queue.specs.Heads.{sourceOf, headIn, CanTake, oneIf, Took}
 use Rattle.queue.proofs.ReadyLaws.{top-first, first-has, insertion-has, insertion-is, first-is, first-none, first-headed, insertion-headed}
 
 -- ---- the step that the smaller head makes
@@ -89,12 +89,12 @@ module _ (ws : List ℕ) (last : ℕ) (h : CanTake ws last) (ws₁ : List ℕ) (
   pub can-now : CanTake ws₁ last
   can-now = record { array = d .array; links = rw (kept-links (d .kept)) (h .links); marks = d .marks }
 
-  taken-is : (s : Step) → mergeStep wholeWord xs ys ≡ s → takeOne wholeWord t (buffersOf ws) ≡ handOut t s now
+  pub taken-is : (s : Step) → mergeStep wholeWord xs ys ≡ s → takeOne wholeWord t (buffersOf ws) ≡ handOut t s now
   unfolding takeOne
   taken-is s e = rw (← d .state, e)
 
   -- I stands outside the tree
-  word-of-I : wordOf ws₁ 0 ≡ wordOf ws 0
+  pub word-of-I : wordOf ws₁ 0 ≡ wordOf ws 0
   word-of-I = d .others 0 (insertion-has ws last h .below) (λ s. let low = links-range 1 last (omega arith) (in-stands 0 t s) .0 in absurd (omega (arith, first-one)))
 
   -- nothing is held there
@@ -202,3 +202,39 @@ module _ (ws : List ℕ) (last : ℕ) (h : CanTake ws last) (ws₁ : List ℕ) (
               omega (arith, no-longer 0 of ws₂ z w 0 (yes refl), ap countIn word-of-I);
           others = others-both 0 of ws₂ z w (inl refl);
         }
+
+-- ---- the head alone
+
+module _ (ws : List ℕ) (last : ℕ) (h : CanTake ws last) where
+  abbrev one : List ℕ
+  one = entries (linksFrom 1 last) (buffersOf ws)
+
+  abbrev two : List ℕ
+  two = insertion (buffersOf ws)
+
+  pub head-none : Neither ≡ sourceOf one two → 0 ≡ headIn (mergeStep wholeWord one two)
+  unfolding headIn
+  head-none e = rw (neither-says one two e)
+
+  module _ (e : First ≡ sourceOf one two) where
+    a-link : 1 ≤ last
+    a-link = go (decLt 0 last)
+      where
+        go : Dec (0 < last) → 1 ≤ last
+        go (yes some) = some
+        go (no none) = absurd (omega (arith, first-says one two e .some, ap length (first-none ws last h (omega arith))))
+
+    pub first-head-can : Headed ws 1 264
+    first-head-can = first-headed ws last h (omega (arith, first-says one two e .some, ap length (first-is ws last h a-link), buffer-length ws 1 (first-has ws last h)))
+
+    pub first-head : (r : ℕ) → r ≡ getD (bufferOf ws 1) 0 0 → r ≡ headIn (mergeStep wholeWord one two)
+    unfolding headIn
+    first-head r q = q ∙ ap (λ l. getD l 0 0) (sym (first-is ws last h a-link)) ∙ ap headIn (sym (first-says one two e .steps))
+
+  module _ (e : Insertion ≡ sourceOf one two) where
+    pub insertion-head-can : Headed ws 0 256
+    insertion-head-can = insertion-headed ws last h (omega (arith, insertion-says one two e .some, ap length (insertion-is ws last h), buffer-length ws 0 (insertion-has ws last h)))
+
+    pub insertion-head : (r : ℕ) → r ≡ getD (bufferOf ws 0) 0 0 → r ≡ headIn (mergeStep wholeWord one two)
+    unfolding headIn
+    insertion-head r q = q ∙ ap (λ l. getD l 0 0) (sym (insertion-is ws last h)) ∙ ap headIn (sym (insertion-says one two e .steps))

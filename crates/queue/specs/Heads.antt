@@ -10,6 +10,7 @@ use Rattle.queue.specs.declared.Source.{Source}
 use Rattle.queue.specs.declared.Source.the-variants.{Neither, First, Insertion}
 use Rattle.rules.specs.Entries.{wholeWord}
 use Rattle.rules.specs.Tree.{Buffers, Tree, linksFrom}
+use Rattle.rules.specs.Merge.{Step, stop, move}
 use Rattle.rules.specs.Take.{Taken}
 use Rattle.buffers.specs.Format.{linksIn, wordOf, countOf, markOf, many, buffersOf}
 use Rattle.buffers.specs.Post.{Inside, Kept}
@@ -21,6 +22,11 @@ sourceOf [] [] = Neither
 sourceOf (x ∷ xs) [] = First
 sourceOf [] (y ∷ ys) = Insertion
 sourceOf (x ∷ xs) (y ∷ ys) = elim (leb (wholeWord x) (wholeWord y)) [ true ↦ First | false ↦ Insertion ]
+
+-- the entry that a step moves; 0 if there is none
+unfoldable pub headIn : Step → ℕ
+headIn stop = 0
+headIn (move e xs ys) = e
 
 -- counts and start places inside their buffers, and right marks in the first links, so many of them
 pub record CanTake (ws : List ℕ) (last : ℕ) : Type 0 where

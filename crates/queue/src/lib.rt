@@ -3,6 +3,7 @@ ghost use mathlib.Core.Path.{_≡_};
 ghost use Prim.Native.Nat.{ℕ, _+_, _≤_, _<_};
 ghost use Rattle.rules.specs.Entries.{wholeWord};
 ghost use Rattle.rules.specs.Tree.{linksFrom, entries};
+ghost use Rattle.rules.specs.Merge.{mergeStep};
 ghost use Rattle.rules.specs.Take.{ready, takeOne, insertion};
 ghost use mathlib.Core.List.{[], _∷_};
 ghost use lib.Dec.{leb};
@@ -17,7 +18,7 @@ ghost use Rattle.rules.specs.Book.{sound};
 ghost use Rattle.rules.specs.Queue.{heldFrom};
 ghost use Rattle.buffers.specs.Format.{bookOf, lentOf, linksIn, many};
 ghost use Rattle.buffers.specs.Post.{Inside};
-ghost use Rattle.queue.specs.Heads.{CanTake, Took, sourceOf};
+ghost use Rattle.queue.specs.Heads.{CanTake, Took, sourceOf, headIn};
 ghost use Rattle.queue.specs.Calls.{Called};
 use rules::Answer;
 use rules::Link;
@@ -210,6 +211,37 @@ pub fn take(a: &mut [u64]) -> Outcome
         answer: Answer::Done,
         word: t.entry,
         steps: t.steps,
+        packed: false,
+    }
+}
+
+// The head that a take hands out where A(1) is ready; 0 if there is none.
+pub fn head_now(a: &[u64], last: usize) -> u64
+    requires { ⌜ CanTake (now a) last ⌝ }
+    ensures { λ r. ⌜ r ≡ headIn (mergeStep wholeWord (entries (linksFrom 1 last) (buffersOf (now (a .entry)))) (insertion (buffersOf (now (a .entry))))) ⌝ }
+{
+    match smaller_head(a, last) {
+        Source::Neither => 0,
+        Source::First => buffers::head(a, 1, Link::BOOK + Link::INSERTION),
+        Source::Insertion => buffers::head(a, 0, Link::BOOK),
+    }
+}
+
+// Says the smallest entry held, and removes nothing.
+pub fn look(a: &mut [u64]) -> Outcome
+    ensures { λ r. ⌜ Called (now (a .entry)) (now (a .exit)) (rules.look (lentOf (now (a .entry)))) (r .answer) (r .word) (r .steps) (r .packed) ⌝ }
+{
+    let found = checked_for_take(a);
+    if rules::number_of(found) != 0 {
+        return refusal(found);
+    }
+    let links = a[0] as usize;
+    let steps = make_ready(a, links);
+    let word = head_now(a, links);
+    Outcome {
+        answer: Answer::Done,
+        word,
+        steps,
         packed: false,
     }
 }
