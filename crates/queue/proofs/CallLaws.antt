@@ -9,7 +9,7 @@ use borrow.Author.Tests.{le-leb, eq-eqb, eqb-true}
 use lib.Dec.{T, T-not, eqb, leb, ltb}
 use lib.ListN.{length, getD}
 use Rattle.rules.specs.declared.Answer.{Answer}
-use Rattle.rules.specs.declared.Answer.the-variants.{Done, ArrayShort, BookBroken, NoneHeld}
+use Rattle.rules.specs.declared.Answer.the-variants.{Done, ArrayShort, BookBroken, NoneHeld, OrderBroken}
 use Rattle.rules.specs.Answers.{numberOf, isDone}
 use Rattle.rules.specs.Entries.{wholeWord}
 use Rattle.rules.specs.Links.{from, words}
@@ -18,8 +18,9 @@ use Rattle.rules.specs.Merge.{Step, stop, move, mergeStep}
 use Rattle.rules.specs.Fill.{Filled}
 use Rattle.rules.specs.Take.{Taken, takeOne, ready, handOut, insertion}
 use Rattle.rules.specs.Queue.{Queue, keyOf, held, heldFrom}
+use Rattle.rules.specs.Order.{inOrder}
 use Rattle.rules.specs.Book.{isLinkNumber, sound, marked, count}
-use Rattle.rules.specs.Calls.{Lent, Outcome, Check, _else_, firstFailing, refused, unless, arrayChecks, takeChecks, queueOf, withBuffers, theEntry, take, look, heldCall}
+use Rattle.rules.specs.Calls.{Lent, Outcome, Check, _else_, firstFailing, refused, unless, arrayChecks, takeChecks, queueOf, withBuffers, theEntry, take, look, heldCall, audit}
 use Rattle.rules.proofs.BookLaws as rules
 use Rattle.rules.proofs.BookKept.{take-kept, look-kept}
 use Rattle.rules.proofs.Accepted.{Long, MayTake, Refusal, take-cases, held-cases}
@@ -106,13 +107,22 @@ module _ (ws : List ℕ) where
   abbrev none-held : List Check
   none-held = (ltb 0 (held (queueOf (lentOf ws))) else NoneHeld) ∷ []
 
+  -- every check behind the common ones
+  pub refused-before : (others : List Check) (x : Answer) → x ≡ common → numberOf x ≢ 0 → x ≡ firstFailing (arrayChecks (lentOf ws) ((sound (bookOf ws) else BookBroken) ∷ others))
+  unfolding arrayChecks lentOf
+  refused-before others x e f = early (leb (words 1) (length ws)) (isLinkNumber (linksIn ws)) (leb (words (linksIn ws)) (length ws)) (sound (bookOf ws)) others x e (not-done x f)
+
+  pub passed-all : (others : List Check) (x : Answer) → x ≡ common → numberOf x ≡ 0 → firstFailing (arrayChecks (lentOf ws) ((sound (bookOf ws) else BookBroken) ∷ others)) ≡ firstFailing others
+  unfolding arrayChecks lentOf
+  passed-all others x e f = late (leb (words 1) (length ws)) (isLinkNumber (linksIn ws)) (leb (words (linksIn ws)) (length ws)) (sound (bookOf ws)) others x e (done x f)
+
   pub refused-early : (x : Answer) → x ≡ common → numberOf x ≢ 0 → x ≡ firstFailing (takeChecks (lentOf ws))
-  unfolding takeChecks arrayChecks lentOf
-  refused-early x e f = early (leb (words 1) (length ws)) (isLinkNumber (linksIn ws)) (leb (words (linksIn ws)) (length ws)) (sound (bookOf ws)) none-held x e (not-done x f)
+  unfolding takeChecks lentOf
+  refused-early x e f = refused-before none-held x e f
 
   passed : (x : Answer) → x ≡ common → numberOf x ≡ 0 → firstFailing (takeChecks (lentOf ws)) ≡ firstFailing none-held
-  unfolding takeChecks arrayChecks lentOf
-  passed x e f = late (leb (words 1) (length ws)) (isLinkNumber (linksIn ws)) (leb (words (linksIn ws)) (length ws)) (sound (bookOf ws)) none-held x e (done x f)
+  unfolding takeChecks lentOf
+  passed x e f = passed-all none-held x e f
 
   -- the array as the document wants it
   module _ (long : Long (lentOf ws)) (right : T (sound (lentOf ws .book))) where
@@ -308,7 +318,7 @@ module _ (ws : List ℕ) (x : Answer) (x-is : x ≡ firstFailing (takeChecks (le
     unfolding lentOf
     take-some-words = omega (arith, may .long .shortest, shortest ws [])
 
--- ---- held, and the checks of take and look
+-- ---- held and audit, and the checks of take and look
 
 module _ (ws : List ℕ) (x : Answer) (x-is : x ≡ common ws) where
   pub held-refused : numberOf x ≢ 0 → Called ws ws (heldCall (lentOf ws)) x 0 0 false
@@ -316,6 +326,22 @@ module _ (ws : List ℕ) (x : Answer) (x-is : x ≡ common ws) where
   held-refused differ =
       refused-called ws (heldCall (lentOf ws)) x (not-done x differ)
       (refused-is (common ws) (queueOf (lentOf ws)) (held-accepted ws) (ap isDone (sym x-is) ∙ not-done x differ) ∙ ap (λ z. refused z (queueOf (lentOf ws))) (sym x-is))
+
+  abbrev in-order : Bool
+  in-order = inOrder (keyOf (queueOf (lentOf ws))) (treeOf (queueOf (lentOf ws) .links)) (queueOf (lentOf ws) .buffers)
+
+  abbrev audit-checks : List Check
+  audit-checks = arrayChecks (lentOf ws) ((sound (bookOf ws) else BookBroken) ∷ (in-order else OrderBroken) ∷ [])
+
+  abbrev audit-accepted : Outcome
+  audit-accepted = record { answer = Done; word = 0; steps = 0; packed = false; queue = queueOf (lentOf ws) }
+
+  audit-refusal : (y : Answer) → y ≡ firstFailing audit-checks → isDone y ≡ false → Called ws ws (audit (lentOf ws)) y 0 0 false
+  unfolding audit lentOf
+  audit-refusal y e f = refused-called ws (audit (lentOf ws)) y f (refused-is (firstFailing audit-checks) (queueOf (lentOf ws)) audit-accepted (ap isDone (sym e) ∙ f) ∙ ap (λ z. refused z (queueOf (lentOf ws))) (sym e))
+
+  pub audit-refused : numberOf x ≢ 0 → Called ws ws (audit (lentOf ws)) x 0 0 false
+  audit-refused differ = audit-refusal x (refused-before ws ((in-order else OrderBroken) ∷ []) x x-is differ) (not-done x differ)
 
   module _ (none-fails : numberOf x ≡ 0) where
     book-holds : isDone (common ws) ≡ true
@@ -358,3 +384,26 @@ module _ (ws : List ℕ) (x : Answer) (x-is : x ≡ common ws) where
           go : (m : ℕ) → m ≢ 0 → ltb 0 m ≡ true
           go zero d = absurd (d refl)
           go (suc m) d = le-leb 1 (suc m) (omega arith)
+
+    module _ (t : Bool) (t-is : t ≡ inOrder wholeWord (treeOf (linksIn ws)) (buffersOf ws)) where
+      audit-answer : firstFailing audit-checks ≡ elim t [ true ↦ Done | false ↦ OrderBroken ]
+      unfolding firstFailing keyOf queueOf lentOf bookOf
+      audit-answer = passed-all ws ((in-order else OrderBroken) ∷ []) x x-is none-fails ∙ ap (λ b. firstFailing ((b else OrderBroken) ∷ [])) (sym t-is)
+
+      pub audit-called : t ≡ true → Called ws ws (audit (lentOf ws)) Done 0 0 false
+      unfolding audit lentOf
+      audit-called e =
+          let all : firstFailing audit-checks ≡ Done = audit-answer ∙ ap (λ b. elim b [ true ↦ Done | false ↦ OrderBroken ]) e in
+          let o : audit (lentOf ws) ≡ audit-accepted = accepted-is (firstFailing audit-checks) (queueOf (lentOf ws)) audit-accepted (ap isDone all ∙ done-is ws) in
+          accepted-called ws ws (audit (lentOf ws)) 0 0
+          (ap (λ (r : Outcome). r .answer) o)
+          (sym (ap (λ (r : Outcome). r .word) o))
+          (sym (ap (λ (r : Outcome). r .steps) o))
+          (ap (λ (r : Outcome). r .packed) o)
+          (sym (ap (λ (r : Outcome). r .queue) o))
+          (book-right ws (may-now .0) (may-now .1))
+
+      -- "9 | order broken"
+      pub order-broken : t ≡ false → Called ws ws (audit (lentOf ws)) OrderBroken 0 0 false
+      unfolding isDone
+      order-broken e = audit-refusal OrderBroken (sym (audit-answer ∙ ap (λ b. elim b [ true ↦ Done | false ↦ OrderBroken ]) e)) refl

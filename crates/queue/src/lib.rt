@@ -262,3 +262,22 @@ pub fn held(a: &[u64]) -> Outcome
         packed: false,
     }
 }
+
+// Checks the order of all entries.
+pub fn audit(a: &[u64]) -> Outcome
+    ensures { λ r. ⌜ Called (now (a .entry)) (now (a .entry)) (rules.audit (lentOf (now (a .entry)))) (r .answer) (r .word) (r .steps) (r .packed) ⌝ }
+{
+    let found = checked(a);
+    if rules::number_of(found) != 0 {
+        return refusal(found);
+    }
+    if order::in_order(a) {
+        return Outcome {
+            answer: Answer::Done,
+            word: 0,
+            steps: 0,
+            packed: false,
+        };
+    }
+    refusal(Answer::OrderBroken)
+}
