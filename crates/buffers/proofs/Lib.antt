@@ -6,3 +6,4 @@ pub mod LinkWeights
 pub mod RuleLaws
 pub mod TreeLaws
 pub mod Exact
+pub mod FreshLaws

@@ -3,3 +3,4 @@ pub mod Format
 pub mod Post
 pub mod Weights
 pub mod Rules
+pub mod Fresh

@@ -59,12 +59,12 @@ holds true t = refl
 holds false t = absurd t
 
 -- where no check fails, the call is done
-accepted-is : (failing : Answer) (q : Queue) (o : Outcome) → isDone failing ≡ true → unless failing q o ≡ o
+pub accepted-is : (failing : Answer) (q : Queue) (o : Outcome) → isDone failing ≡ true → unless failing q o ≡ o
 unfolding unless
 accepted-is failing q o e = subst (λ b. elim b [ true ↦ o | false ↦ refused failing q ] ≡ o) (sym e) refl
 
 -- where one fails, it is refused
-refused-is : (failing : Answer) (q : Queue) (o : Outcome) → isDone failing ≡ false → unless failing q o ≡ refused failing q
+pub refused-is : (failing : Answer) (q : Queue) (o : Outcome) → isDone failing ≡ false → unless failing q o ≡ refused failing q
 unfolding unless
 refused-is failing q o e = subst (λ b. elim b [ true ↦ o | false ↦ refused failing q ] ≡ refused failing q) (sym e) refl
 
@@ -160,7 +160,7 @@ module _ (ws : List ℕ) where
   unfolding take
   take-is e = accepted-is (firstFailing (takeChecks (lentOf ws))) (queueOf (lentOf ws)) take-accepted e
 
-  done-is : isDone Done ≡ true
+  pub done-is : isDone Done ≡ true
   unfolding isDone
   done-is = refl
 
@@ -209,7 +209,7 @@ same-queue ws ws′ bs array kept e =
 -- ---- outcomes
 
 -- "Every refusal changes nothing"
-refused-called : (ws : List ℕ) (o : Outcome) (x : Answer) → isDone x ≡ false → o ≡ refused x (queueOf (lentOf ws)) → Called ws ws o x 0 0 false
+pub refused-called : (ws : List ℕ) (o : Outcome) (x : Answer) → isDone x ≡ false → o ≡ refused x (queueOf (lentOf ws)) → Called ws ws o x 0 0 false
 unfolding refused
 refused-called ws o x f e =
     record {
@@ -227,7 +227,7 @@ pub told : (ws ws′ : List ℕ) (o : Outcome) (x answer : Answer) (word steps :
 told ws ws′ o x answer word steps packed a w s p z = rw (a, w, s, p) z
 
 -- "every accepted call leaves a book that keeps all book rules"
-accepted-called : (ws ws′ : List ℕ) (o : Outcome) (word steps : ℕ) → o .answer ≡ Done → word ≡ o .word → steps ≡ o .steps → o .packed ≡ false → queueOf (lentOf ws′) ≡ o .queue → sound (bookOf ws′) ≡ true
+pub accepted-called : (ws ws′ : List ℕ) (o : Outcome) (word steps : ℕ) → o .answer ≡ Done → word ≡ o .word → steps ≡ o .steps → o .packed ≡ false → queueOf (lentOf ws′) ≡ o .queue → sound (bookOf ws′) ≡ true
     → Called ws ws′ o Done word steps false
 accepted-called ws ws′ o word steps a w s p q b =
     record { answer-is = sym a; word-is = w; steps-are = s; packed-is = sym p; refused = λ g. absurd (unlike (sym (done-is ws) ∙ g)); queue-is = λ g. q; sound-is = λ g. b }

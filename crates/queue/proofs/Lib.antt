@@ -3,3 +3,4 @@ pub mod HandLaws
 pub mod CheckLaws
 pub mod BookLaws
 pub mod CallLaws
+pub mod SetupLaws

@@ -183,6 +183,28 @@ pub fn refusal(answer: Answer) -> Outcome
     }
 }
 
+// Makes an empty queue of so many links.
+pub fn setup(a: &mut [u64], links: u64) -> Outcome
+    ensures { λ r. ⌜ Called (now (a .entry)) (now (a .exit)) (rules.setup links (lentOf (now (a .entry)))) (r .answer) (r .word) (r .steps) (r .packed) ⌝ }
+{
+    if links < 1 {
+        return refusal(Answer::NoSuchLinks);
+    }
+    if 4 < links {
+        return refusal(Answer::NoSuchLinks);
+    }
+    if a.len() < Link::at(links as usize).words() {
+        return refusal(Answer::ArrayShort);
+    }
+    buffers::fresh::begin(a, links as usize);
+    Outcome {
+        answer: Answer::Done,
+        word: 0,
+        steps: 0,
+        packed: false,
+    }
+}
+
 // The checks of take and look: those of every call, then 6.
 pub fn checked_for_take(a: &[u64]) -> Answer
     ensures { λ r. ⌜ r ≡ firstFailing (takeChecks (lentOf (now (a .entry)))) ⌝ }

@@ -1,0 +1,129 @@
+-- Setup: what its checks say, and the fresh book.
+use Prim.Native.Nat.{ℕ, zero, suc, _+_, _≤_, _<_}
+use mathlib.Core.Path.{_≡_, refl, sym, ap, _∙_, subst}
+use mathlib.Core.Bool.{Bool, true, false}
+use mathlib.Core.List.{List, [], _∷_, map}
+use native.Mathlib.Omega.{arith}
+use borrow.Author.Tests.{le-leb, lt-leb}
+use lib.Dec.{T, leb}
+use lib.ListN.{length, getD, take, drop, replicate}
+use Rattle.rules.specs.declared.Answer.{Answer}
+use Rattle.rules.specs.declared.Answer.the-variants.{Done, NoSuchLinks, ArrayShort}
+use Rattle.rules.specs.Answers.{isDone}
+use Rattle.rules.specs.Tests.{_and_}
+use Rattle.rules.specs.Links.{from, bufferCount, words, mostLinks, LinkNumber}
+use Rattle.rules.specs.Tree.{Buffers, Tree, exhausted, buffer, merger, treeOf}
+use Rattle.rules.specs.Queue.{Queue, fresh}
+use Rattle.rules.specs.Book.{isLinkNumber, sound}
+use Rattle.rules.specs.Calls.{Outcome, Check, _else_, firstFailing, refused, queueOf, setup}
+use Rattle.rules.proofs.Numbers.{Stands, itself, output, in-first, in-second}
+use Rattle.rules.proofs.Numbering.{tree-range}
+use Rattle.rules.proofs.BookLaws as rules
+use Rattle.rules.proofs.BookKept.{fresh-kept}
+use Rattle.buffers.specs.Format.{linksIn, countIn, markIn, startIn, countOf, startOf, markOf, wordOf, counterIn, many, bookOf, lentOf, bufferOf, buffersOf, headOf}
+use Rattle.buffers.specs.Slots.{capacityOf}
+use Rattle.buffers.specs.Post.{Inside}
+use Rattle.buffers.proofs.SlotLaws.{some}
+use Rattle.buffers.specs.Fresh.{CanBegin, Begun}
+use Rattle.mergers.specs.Fills.{MarksRight}
+use Rattle.queue.specs.Calls.{Called}
+use Rattle.queue.proofs.BookLaws.{sound-after}
+use Rattle.queue.proofs.CallLaws.{refused-called, accepted-called, accepted-is, refused-is, done-is}
+
+each-one : {A : Type 0} (f : ℕ → A) (x : A) (i n : ℕ) → ((m : ℕ) → i ≤ m → m < i + n → f m ≡ x) → map f (from i n) ≡ replicate n x
+unfolding from
+each-one f x i zero same = refl
+each-one f x i (suc n) same = λ p. same i (omega arith) (omega arith) p ∷ each-one f x (suc i) n (λ m low high. same m (omega arith) (omega arith)) p
+
+marks-none : (ws : List ℕ) (t : Tree) → ((m : ℕ) → Stands m t → markOf ws m ≡ 0) → MarksRight ws t
+marks-none ws exhausted h = tt
+marks-none ws (buffer n c) h = λ e. absurd (omega (arith, h n itself))
+marks-none ws (merger n c one two) h = (λ e. absurd (omega (arith, h n output)), marks-none ws one (λ m s. h m (in-first s)), marks-none ws two (λ m s. h m (in-second s)))
+
+module _ (ws ws′ : List ℕ) (links : ℕ) (can : CanBegin ws links) (b : Begun ws ws′ links) where
+  word-zero : (n : ℕ) → n < many ws′ → wordOf ws′ n ≡ 0
+  word-zero n lt = b .buffers n (rw (b .number) at lt)
+
+  fresh-inside : Inside ws′
+  fresh-inside =
+      record {
+        link = rw (b .number) (can .link);
+        long = rw (b .number, b .long) (can .enough);
+        fits = λ n lt. rw (word-zero n lt) (omega arith);
+      }
+
+  no-entries : (n : ℕ) → n < bufferCount links → bufferOf ws′ n ≡ []
+  unfolding bufferOf
+  no-entries n lt = ap (λ w. take (countIn w) (drop (headOf ws′ n) ws′)) (b .buffers n lt)
+
+  fresh-queue : queueOf (lentOf ws′) ≡ fresh links
+  unfolding queueOf lentOf bookOf buffersOf fresh
+  fresh-queue =
+      let counters : map (counterIn ws′) (from 1 (linksIn ws′)) ≡ replicate links 1 = rw (b .number) (each-one (counterIn ws′) 1 1 links (λ m low high. b .counters m low (omega arith))) in
+      let buffers : map (bufferOf ws′) (from 0 (many ws′)) ≡ replicate (bufferCount links) [] =
+      rw (b .number) (each-one (bufferOf ws′) [] 0 (bufferCount links) (λ m low high. no-entries m (omega arith))) in
+      λ p. record { links = b .number p; counters = counters p; buffers = buffers p }
+
+  number-holds : isLinkNumber links ≡ true
+  unfolding isLinkNumber mostLinks
+  number-holds = rw (le-leb 1 links (can .link .low), le-leb links 4 (can .link .high))
+
+  fresh-sound : sound (bookOf ws′) ≡ true
+  fresh-sound =
+      sound-after ws′ fresh-inside
+      (subst (rules.Kept 7) (sym fresh-queue) (fresh-kept links (subst T (sym number-holds) tt)))
+      (marks-none ws′ (treeOf (linksIn ws′)) (λ m s. ap markIn (word-zero m (tree-range (linksIn ws′) s .1))))
+      (λ e. ap countIn (word-zero 0 (omega (arith, some (fresh-inside .link)))))
+
+-- ---- its checks
+
+module _ (ws : List ℕ) (links : ℕ) where
+  abbrev checks : List Check
+  checks = (isLinkNumber links else NoSuchLinks) ∷ (leb (words links) (length ws) else ArrayShort) ∷ []
+
+  abbrev accepted : Outcome
+  accepted = record { answer = Done; word = 0; steps = 0; packed = false; queue = fresh links }
+
+  answer-now : (t u : Bool) → isLinkNumber links ≡ t → leb (words links) (length ws) ≡ u → firstFailing checks ≡ elim t [ true ↦ elim u [ true ↦ Done | false ↦ ArrayShort ] | false ↦ NoSuchLinks ]
+  unfolding firstFailing
+  answer-now t u e f = λ i. firstFailing ((e i else NoSuchLinks) ∷ (f i else ArrayShort) ∷ [])
+
+  setup-refusal : (y : Answer) → y ≡ firstFailing checks → isDone y ≡ false → Called ws ws (setup links (lentOf ws)) y 0 0 false
+  unfolding setup lentOf
+  setup-refusal y e f = refused-called ws (setup links (lentOf ws)) y f (refused-is (firstFailing checks) (queueOf (lentOf ws)) accepted (ap isDone (sym e) ∙ f) ∙ ap (λ z. refused z (queueOf (lentOf ws))) (sym e))
+
+  -- "1 | no such number of links"
+  not-a-number : isLinkNumber links ≡ false → Called ws ws (setup links (lentOf ws)) NoSuchLinks 0 0 false
+  unfolding isDone
+  not-a-number e = setup-refusal NoSuchLinks (sym (answer-now false (leb (words links) (length ws)) e refl)) refl
+
+  pub too-few : links < 1 → Called ws ws (setup links (lentOf ws)) NoSuchLinks 0 0 false
+  unfolding isLinkNumber
+  too-few h = not-a-number (rw (lt-leb 1 links h))
+
+  pub too-many : 4 < links → Called ws ws (setup links (lentOf ws)) NoSuchLinks 0 0 false
+  unfolding isLinkNumber mostLinks
+  too-many h = not-a-number (let low : 1 ≤ links = omega arith in rw (le-leb 1 links low, lt-leb links 4 h))
+
+  module _ (link : LinkNumber links) where
+    is-number : isLinkNumber links ≡ true
+    unfolding isLinkNumber mostLinks
+    is-number = rw (le-leb 1 links (link .low), le-leb links 4 (link .high))
+
+    -- "2 | array too short"
+    pub too-short : length ws < words links → Called ws ws (setup links (lentOf ws)) ArrayShort 0 0 false
+    unfolding isDone
+    too-short h = setup-refusal ArrayShort (sym (answer-now true false is-number (lt-leb (words links) (length ws) h))) refl
+
+  pub setup-called : (ws′ : List ℕ) → CanBegin ws links → Begun ws ws′ links → Called ws ws′ (setup links (lentOf ws)) Done 0 0 false
+  unfolding setup lentOf
+  setup-called ws′ can b =
+      let all : firstFailing checks ≡ Done = answer-now true true (is-number (can .link)) (le-leb (words links) (length ws) (can .enough)) in
+      let o : setup links (lentOf ws) ≡ accepted = accepted-is (firstFailing checks) (queueOf (lentOf ws)) accepted (ap isDone all ∙ done-is ws) in
+      accepted-called ws ws′ (setup links (lentOf ws)) 0 0
+      (ap (λ (r : Outcome). r .answer) o)
+      (sym (ap (λ (r : Outcome). r .word) o))
+      (sym (ap (λ (r : Outcome). r .steps) o))
+      (ap (λ (r : Outcome). r .packed) o)
+      (fresh-queue ws ws′ links can b ∙ sym (ap (λ (r : Outcome). r .queue) o))
+      (fresh-sound ws ws′ links can b)
