@@ -217,6 +217,8 @@ refused-called ws o x f e =
       word-is = sym (ap (λ (z : Outcome). z .word) e);
       steps-are = sym (ap (λ (z : Outcome). z .steps) e);
       packed-is = sym (ap (λ (z : Outcome). z .packed) e);
+      long = refl;
+      past = λ p h. refl;
       refused = λ g. refl;
       queue-is = λ g. absurd (unlike (sym g ∙ f));
       sound-is = λ g. absurd (unlike (sym g ∙ f));
@@ -228,9 +230,9 @@ told ws ws′ o x answer word steps packed a w s p z = rw (a, w, s, p) z
 
 -- "every accepted call leaves a book that keeps all book rules"
 pub accepted-called : (ws ws′ : List ℕ) (o : Outcome) (word steps : ℕ) → o .answer ≡ Done → word ≡ o .word → steps ≡ o .steps → o .packed ≡ false → queueOf (lentOf ws′) ≡ o .queue → sound (bookOf ws′) ≡ true
-    → Called ws ws′ o Done word steps false
-accepted-called ws ws′ o word steps a w s p q b =
-    record { answer-is = sym a; word-is = w; steps-are = s; packed-is = sym p; refused = λ g. absurd (unlike (sym (done-is ws) ∙ g)); queue-is = λ g. q; sound-is = λ g. b }
+    → length ws′ ≡ length ws → ((p : ℕ) → words (linksIn ws′) ≤ p → getD ws′ p 0 ≡ getD ws p 0) → Called ws ws′ o Done word steps false
+accepted-called ws ws′ o word steps a w s p q b long past =
+    record { answer-is = sym a; word-is = w; steps-are = s; packed-is = sym p; long = long; past = past; refused = λ g. absurd (unlike (sym (done-is ws) ∙ g)); queue-is = λ g. q; sound-is = λ g. b }
 
 the-one : (found : Bool) (entry : ℕ) (out : List ℕ) → oneIf found entry ≡ out → (found ≡ false → entry ≡ 0) → entry ≡ theEntry out
 unfolding theEntry
@@ -292,6 +294,8 @@ module _ (ws : List ℕ) (x : Answer) (x-is : x ≡ firstFailing (takeChecks (le
         (ap (λ (r : Outcome). r .packed) o)
         (after ∙ sym (ap (λ (r : Outcome). r .queue) o))
         (sound-still ws′ (z .array) (z .kept) (z .marks) (z .mark-of-I) (z .fewer-in-I) (subst (rules.Kept 7) (sym after) k))
+        (z .kept .long)
+        (λ p h. z .kept .past p (rw (kept-links (z .kept)) at h))
 
     pub look-called : (ws′ : List ℕ) (word steps : ℕ) → Did ws ws′ (linksFrom 1 (linksIn ws)) (ready wholeWord (linksFrom 1 (linksIn ws)) (buffersOf ws)) steps
         → word ≡ headIn (mergeStep wholeWord (entries (linksFrom 1 (linksIn ws)) (buffersOf ws′)) (insertion (buffersOf ws′))) → Called ws ws′ (look (lentOf ws)) Done word steps false
@@ -313,6 +317,8 @@ module _ (ws : List ℕ) (x : Answer) (x-is : x ≡ firstFailing (takeChecks (le
         (ap (λ (r : Outcome). r .packed) o)
         (after ∙ sym (ap (λ (r : Outcome). r .queue) o))
         (sound-still ws′ (d .array) (d .kept) (d .marks) (ap markIn I-word) (rw I-word (omega arith)) (subst (rules.Kept 7) (sym after) k))
+        (d .kept .long)
+        (λ p h. d .kept .past p (rw (kept-links (d .kept)) at h))
 
     pub take-some-words : 0 < length ws
     unfolding lentOf
@@ -369,6 +375,8 @@ module _ (ws : List ℕ) (x : Answer) (x-is : x ≡ common ws) where
           (ap (λ (r : Outcome). r .packed) o)
           (sym (ap (λ (r : Outcome). r .queue) o))
           (book-right ws (may-now .0) (may-now .1))
+          refl
+          (λ p h. refl)
 
       last-check : (b : Bool) → ltb 0 n ≡ b → firstFailing (takeChecks (lentOf ws)) ≡ elim b [ true ↦ Done | false ↦ NoneHeld ]
       unfolding firstFailing held queueOf lentOf bookOf
@@ -402,6 +410,8 @@ module _ (ws : List ℕ) (x : Answer) (x-is : x ≡ common ws) where
           (ap (λ (r : Outcome). r .packed) o)
           (sym (ap (λ (r : Outcome). r .queue) o))
           (book-right ws (may-now .0) (may-now .1))
+          refl
+          (λ p h. refl)
 
       -- "9 | order broken"
       pub order-broken : t ≡ false → Called ws ws (audit (lentOf ws)) OrderBroken 0 0 false

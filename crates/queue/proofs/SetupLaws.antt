@@ -23,7 +23,7 @@ use Rattle.rules.proofs.BookKept.{fresh-kept}
 use Rattle.buffers.specs.Format.{linksIn, countIn, markIn, startIn, countOf, startOf, markOf, wordOf, counterIn, many, bookOf, lentOf, bufferOf, buffersOf, headOf}
 use Rattle.buffers.specs.Slots.{capacityOf}
 use Rattle.buffers.specs.Post.{Inside}
-use Rattle.buffers.proofs.SlotLaws.{some}
+use Rattle.buffers.proofs.SlotLaws.{words-end, behind-book, few, some}
 use Rattle.buffers.specs.Fresh.{CanBegin, Begun}
 use Rattle.mergers.specs.Fills.{MarksRight}
 use Rattle.queue.specs.Calls.{Called}
@@ -127,3 +127,5 @@ module _ (ws : List ℕ) (links : ℕ) where
       (ap (λ (r : Outcome). r .packed) o)
       (fresh-queue ws ws′ links can b ∙ sym (ap (λ (r : Outcome). r .queue) o))
       (fresh-sound ws ws′ links can b)
+      (b .long)
+      (λ p h. b .behind p (omega (arith, words-end (fresh-inside ws ws′ links can b .link), behind-book (bufferCount (linksIn ws′)), few (can .link))))

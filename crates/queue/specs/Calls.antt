@@ -3,19 +3,22 @@ use mathlib.Core.Path.{_≡_}
 use mathlib.Core.Bool.{Bool, true, false}
 use mathlib.Core.List.{List}
 use Prim.Native.Nat.{ℕ, _≤_}
+use lib.ListN.{length, getD}
+use Rattle.rules.specs.Links.{words}
 use Rattle.rules.specs.declared.Answer.{Answer}
 use Rattle.rules.specs.Answers.{isDone}
 use Rattle.rules.specs.Book.{sound}
 use Rattle.rules.specs.Calls as rules
-use Rattle.buffers.specs.Format.{bookOf, lentOf}
-use Rattle.buffers.specs.Post.{Kept}
+use Rattle.buffers.specs.Format.{linksIn, bookOf, lentOf}
 
--- answer, word, steps and packing are the rules' own; "Every refusal changes nothing; every accepted call leaves a book that keeps all book rules"
+-- answer, word, steps and packing are the rules' own; no word past the stated length changes; "Every refusal changes nothing; every accepted call leaves a book that keeps all book rules"
 pub record Called (ws ws′ : List ℕ) (o : rules.Outcome) (answer : Answer) (word steps : ℕ) (packed : Bool) : Type 0 where
   pub answer-is : answer ≡ o .answer
   pub word-is : word ≡ o .word
   pub steps-are : steps ≡ o .steps
   pub packed-is : packed ≡ o .packed
+  pub long : length ws′ ≡ length ws
+  pub past : (p : ℕ) → words (linksIn ws′) ≤ p → getD ws′ p 0 ≡ getD ws p 0
   pub refused : isDone answer ≡ false → ws′ ≡ ws
   pub queue-is : isDone answer ≡ true → rules.queueOf (lentOf ws′) ≡ o .queue
   pub sound-is : isDone answer ≡ true → sound (bookOf ws′) ≡ true
