@@ -20,7 +20,8 @@ fn main() {
     println!("cargo:rerun-if-env-changed=GORGALHUT_LIB_DIR");
     println!("cargo:rerun-if-env-changed=GORGALHUT_LIB_NAME");
     println!("cargo:rerun-if-changed=build.rs");
-    let none = !["BOOK", "CALLS", "INSERT"].into_iter().any(feature);
+    // Calls bring takes with them.
+    let none = !["BOOK", "TAKES", "INSERT"].into_iter().any(feature);
     if none || feature("FAKE") {
         return;
     }

@@ -1,6 +1,7 @@
 //! A stand-in for the library, made of the reference, with faults to be chosen by
 //! the variable GORGALHUT_FAULT. It shows that the comparison sees them.
 
+use crate::tally::name;
 use reference::array::built::{random_marks, random_starts};
 use reference::array::calls::{expected, Call, Expected};
 use reference::array::{decode, encode, lay, link_number, stretches, verdict, RULES};
@@ -18,6 +19,11 @@ static SINCE_SETUP: AtomicUsize = AtomicUsize::new(0);
 fn fault(name: &str) -> bool {
     static CHOSEN: OnceLock<String> = OnceLock::new();
     CHOSEN.get_or_init(|| std::env::var("GORGALHUT_FAULT").unwrap_or_default()) == name
+}
+
+/// A fault of one call alone, named after it and after what is wrong.
+fn fault_of(call: Call, what: &str) -> bool {
+    fault(&format!("{}-{what}", name(call)))
 }
 
 /// What is lent for a call, and where its results go.
@@ -215,6 +221,15 @@ fn wrong_result(words: &[u64], call: Call, outcome: &mut Outcome) {
     if fault("refusal-word") && outcome.answer == 6 {
         outcome.word = 1;
     }
+    if fault_of(call, "answer") && outcome.answer == 4 {
+        outcome.answer = 2;
+    }
+    if fault_of(call, "word") && accepted {
+        outcome.word ^= 1;
+    }
+    if fault_of(call, "steps") && accepted {
+        outcome.steps += 1;
+    }
     let queue = || decode(words).queue().expect("an accepted array");
     if fault("held-without-i") && call == Call::Held && accepted {
         outcome.word -= queue().insertion.len() as u64;
@@ -229,6 +244,14 @@ fn wrong_result(words: &[u64], call: Call, outcome: &mut Outcome) {
 /// Movements that are nearly right.
 fn wrong_queue(words: &[u64], call: Call, queue: &mut Queue) {
     let before = || decode(words).queue().expect("an accepted array");
+    if fault_of(call, "entries") {
+        let mut buffers = queue.buffers.iter_mut().flatten();
+        let last = buffers.find_map(|buffer| buffer.back_mut());
+        last.into_iter().for_each(|entry| *entry ^= 1);
+    }
+    if fault_of(call, "counters") && queue.c[0] == 1 {
+        queue.c[0] = 2;
+    }
     match call {
         Call::Take if fault("take-ties") => {
             // I's entry is handed out where A(1)'s equal one should be.
@@ -280,6 +303,9 @@ unsafe fn wrong_writes(call: Call, lent: &Lent, result: &Expected) {
     }
     if fault("held-writes") && call == Call::Held && !refused {
         *lent.array.add(300) ^= 1;
+    }
+    if fault_of(call, "unused") && !refused {
+        *lent.array.add(200) ^= 1;
     }
     if fault("before") && !refused {
         *lent.array.sub(1) = 1;

@@ -26,11 +26,11 @@ extern "C" {
         steps: *mut u64,
         packed: *mut bool,
     ) -> u8;
-    #[cfg(feature = "calls")]
+    #[cfg(feature = "takes")]
     fn gorgalhut_take(array: *mut u64, words: usize, word: *mut u64, steps: *mut u64) -> u8;
-    #[cfg(feature = "calls")]
+    #[cfg(feature = "takes")]
     fn gorgalhut_look(array: *mut u64, words: usize, word: *mut u64, steps: *mut u64) -> u8;
-    #[cfg(feature = "calls")]
+    #[cfg(feature = "takes")]
     fn gorgalhut_held(array: *const u64, words: usize, word: *mut u64, steps: *mut u64) -> u8;
     #[cfg(feature = "calls")]
     fn gorgalhut_audit(array: *const u64, words: usize, word: *mut u64, steps: *mut u64) -> u8;
@@ -45,7 +45,7 @@ pub struct Got {
     pub packed: bool,
 }
 
-#[cfg(any(feature = "calls", feature = "insert"))]
+#[cfg(any(feature = "takes", feature = "insert"))]
 impl Got {
     /// What stands in the places of the results before a call, so that one left
     /// unwritten is seen.
@@ -83,7 +83,7 @@ pub fn call(array: &mut Lent, work: &mut Lent, call: Call, packed: bool) -> Got 
     }
 }
 
-#[cfg(feature = "calls")]
+#[cfg(feature = "takes")]
 fn call_without_work(array: &mut Lent, call: Call) -> Got {
     let mut got = Got::unwritten(false);
     let (lent, length) = (array.pointer(), array.length());
@@ -91,20 +91,24 @@ fn call_without_work(array: &mut Lent, call: Call) -> Got {
     // SAFETY: each pointer is of memory that is lent for the call.
     got.answer = unsafe {
         match call {
+            #[cfg(feature = "calls")]
             Call::Setup(links) => gorgalhut_setup(lent, length, links, word, steps),
             Call::Take => gorgalhut_take(lent, length, word, steps),
             Call::Look => gorgalhut_look(lent, length, word, steps),
             Call::Held => gorgalhut_held(lent, length, word, steps),
+            #[cfg(feature = "calls")]
             Call::Audit => gorgalhut_audit(lent, length, word, steps),
+            #[cfg(not(feature = "calls"))]
+            Call::Setup(_) | Call::Audit => unreachable!("built without the feature calls"),
             Call::Insert(..) => unreachable!("an insert has a work area"),
         }
     };
     got
 }
 
-#[cfg(not(feature = "calls"))]
+#[cfg(not(feature = "takes"))]
 fn call_without_work(_array: &mut Lent, _call: Call) -> Got {
-    unreachable!("built without the feature calls")
+    unreachable!("built without the feature takes")
 }
 
 #[cfg(feature = "insert")]

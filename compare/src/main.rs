@@ -3,7 +3,7 @@
 
 // Built with nothing of the library, there is nobody to lend memory to.
 #![cfg_attr(
-    not(any(feature = "book", feature = "calls", feature = "insert")),
+    not(any(feature = "book", feature = "takes", feature = "insert")),
     allow(dead_code)
 )]
 
@@ -27,6 +27,7 @@ use tally::Tally;
 fn built_in(group: Group) -> bool {
     match group {
         Group::Book => cfg!(feature = "book"),
+        Group::Takes => cfg!(feature = "takes"),
         Group::Calls => cfg!(feature = "calls"),
         Group::Insert => cfg!(feature = "insert"),
     }
@@ -37,7 +38,7 @@ fn compare(options: &Options, tally: &mut Tally) -> Result<(), String> {
     let mut source = arrays::compare(options, &mut memory, tally)?;
     match options.group {
         Group::Book => Ok(()),
-        Group::Calls => sessions::emptying(options, &mut source, &mut memory, tally),
+        Group::Takes | Group::Calls => sessions::emptying(options, &mut source, &mut memory, tally),
         Group::Insert if built_in(Group::Calls) => sessions::whole(options, &mut memory, tally),
         Group::Insert => {
             println!("no sessions: calls are not built in");

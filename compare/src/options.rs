@@ -4,6 +4,7 @@
 #[derive(Clone, Copy, Debug, PartialEq, Eq)]
 pub enum Group {
     Book,
+    Takes,
     Calls,
     Insert,
 }
@@ -22,7 +23,8 @@ pub struct Options {
 
 pub const HELP: &str = "\
 compare book               the verdict on a book
-compare calls              setup, take, look, held and audit
+compare takes              take, look and held
+compare calls              these three, setup and audit
 compare insert             insert, and whole sessions if calls are built in
   --arrays N               how many arrays (1000)
   --seed N                 the seed (1)
@@ -36,9 +38,10 @@ pub fn read_options(arguments: &[String]) -> Result<Options, String> {
     let mut words = arguments.iter();
     let group = match words.next().map(String::as_str) {
         Some("book") => Group::Book,
+        Some("takes") => Group::Takes,
         Some("calls") => Group::Calls,
         Some("insert") => Group::Insert,
-        _ => return Err(format!("book, calls or insert is needed\n{HELP}")),
+        _ => return Err(format!("book, takes, calls or insert is needed\n{HELP}")),
     };
     let mut options = Options {
         group,

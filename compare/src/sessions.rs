@@ -1,7 +1,7 @@
 //! Many calls on one array, with the reference beside the library.
 
 use crate::check::Memory;
-use crate::options::Options;
+use crate::options::{Group, Options};
 use crate::tally::Tally;
 use reference::array::built::{garbage, random_array};
 use reference::array::calls::Call;
@@ -68,7 +68,7 @@ pub fn emptying(
         let mut left = options.session_calls / MOST_LINKS;
         while left > 0 {
             let queue = source.moment(links);
-            left -= empty_one(queue, left, source.rng(), memory, tally)?;
+            left -= empty_one(options.group, queue, left, source.rng(), memory, tally)?;
         }
     }
     Ok(())
@@ -76,6 +76,7 @@ pub fn emptying(
 
 /// Empties one queue; gives the number of calls that it took.
 fn empty_one(
+    group: Group,
     queue: Queue,
     most: usize,
     rng: &mut Rng,
@@ -92,23 +93,24 @@ fn empty_one(
     let mut course = Course::new(name, words, memory, tally);
     let mut nothing_left = 0;
     while course.calls < most && nothing_left < 3 {
-        let (call, outcome) = some_call(rng, &mut machine);
+        let (call, outcome) = some_call(group, rng, &mut machine);
         course.call(call, &outcome, machine.queue.as_ref())?;
         nothing_left += usize::from(outcome.answer == 6);
     }
     Ok(course.calls)
 }
 
-/// A call that needs no work area, run by the machine beside the library.
-fn some_call(rng: &mut Rng, machine: &mut Machine) -> (Call, Outcome) {
+/// A call of the group that needs no work area, run by the machine beside the library.
+fn some_call(group: Group, rng: &mut Rng, machine: &mut Machine) -> (Call, Outcome) {
+    let others = group != Group::Takes;
     match rng.below(2_000) {
-        0 => {
+        0 if others => {
             let links = rng.below(6);
             (Call::Setup(links), machine.setup(links as usize))
         }
         1..=150 => (Call::Look, machine.look()),
         151..=250 => (Call::Held, machine.held()),
-        251..=350 => (Call::Audit, machine.audit()),
+        251..=350 if others => (Call::Audit, machine.audit()),
         _ => (Call::Take, machine.take()),
     }
 }

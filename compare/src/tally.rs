@@ -22,7 +22,7 @@ pub struct Tally {
 }
 
 /// A call's name in the document.
-fn name(call: Call) -> &'static str {
+pub fn name(call: Call) -> &'static str {
     match call {
         Call::Setup(_) => "setup",
         Call::Insert(..) => "insert",

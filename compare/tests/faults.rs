@@ -28,7 +28,7 @@ fn seen(group: &str, fault: &str) -> String {
 
 #[test]
 fn no_fault_no_difference() {
-    for group in ["book", "calls", "insert"] {
+    for group in ["book", "takes", "calls", "insert"] {
         for seed in ["3", "4"] {
             let output = compare(&[group, "--arrays", "4000", "--seed", seed], "");
             let text = text(&output);
@@ -61,13 +61,18 @@ fn faults_of_the_verdict() {
 #[test]
 fn faults_of_the_results() {
     for (group, fault, told) in [
+        ("takes", "steps", "Take"),
         ("calls", "steps", "Take"),
         ("insert", "steps", "Insert"),
+        ("takes", "refusal-word", "Take"),
         ("calls", "refusal-word", "Take"),
+        ("takes", "word-unwritten", "word: bad0bad0bad0bad0"),
         ("calls", "word-unwritten", "word: bad0bad0bad0bad0"),
         ("insert", "word-unwritten", "word: bad0bad0bad0bad0"),
+        ("takes", "held-without-i", "Held"),
         ("calls", "held-without-i", "Held"),
         ("calls", "audit-without-i", "Audit"),
+        ("takes", "length-last", "Take"),
         ("calls", "length-last", "Take"),
         ("insert", "packed", "Insert"),
         ("insert", "door-first", "Insert"),
@@ -81,11 +86,49 @@ fn faults_of_the_results() {
     }
 }
 
+/// Everything that is compared of a call is compared of each.
+#[test]
+fn faults_of_one_call_alone() {
+    for (groups, call, told) in [
+        (&["takes", "calls"][..], "take", "Take"),
+        (&["takes", "calls"], "look", "Look"),
+        (&["takes", "calls"], "held", "Held"),
+        (&["calls"], "setup", "Setup("),
+        (&["calls"], "audit", "Audit"),
+        (&["insert"], "insert", "Insert("),
+    ] {
+        // Those that may change the array have a queue to be found after them.
+        let changing = !["held", "audit"].contains(&call);
+        // An answer 4 is none of setup's, and nothing is held after it.
+        let setup = call == "setup";
+        for (what, report, fits) in [
+            ("answer", "expected Got", !setup),
+            ("word", "expected Got", true),
+            ("steps", "expected Got", true),
+            ("unused", "word 200 was", true),
+            ("counters", "expected queue", changing),
+            ("entries", "expected queue", changing && !setup),
+        ] {
+            for group in groups.iter().filter(|_| fits) {
+                let found = seen(group, &format!("{call}-{what}"));
+                assert!(
+                    found.contains(&format!(": {told}")),
+                    "{call}-{what}: {found}"
+                );
+                assert!(found.contains(report), "{call}-{what}: {found}");
+            }
+        }
+    }
+}
+
 #[test]
 fn faults_of_the_movements() {
     for (group, fault) in [
+        ("takes", "take-ties"),
         ("calls", "take-ties"),
+        ("takes", "look-removes"),
         ("calls", "look-removes"),
+        ("takes", "look-unchanged"),
         ("calls", "look-unchanged"),
         ("insert", "before-equal"),
         ("insert", "second-sweep"),
@@ -96,7 +139,7 @@ fn faults_of_the_movements() {
         assert!(report.contains("expected queue"), "{fault}: {report}");
     }
     for (fault, rule) in [("stale-mark", "Mark"), ("start-outside", "Inside")] {
-        for group in ["calls", "insert"] {
+        for group in ["takes", "calls", "insert"] {
             let report = seen(group, fault);
             let broken = format!("book rules broken: [{rule}]");
             assert!(report.contains(&broken), "{fault}: {report}");
@@ -107,16 +150,22 @@ fn faults_of_the_movements() {
 #[test]
 fn writes_where_none_are_allowed() {
     for (group, fault, report) in [
+        ("takes", "refusal-writes", "word "),
         ("calls", "refusal-writes", "word "),
         ("insert", "refusal-writes", "word "),
+        ("takes", "held-writes", "word 300 was"),
         ("calls", "held-writes", "word 300 was"),
+        ("takes", "before", "written 1 words before the array"),
         ("calls", "before", "written 1 words before the array"),
         ("insert", "before", "written 1 words before the array"),
+        ("takes", "behind", "written 1 words behind the array"),
         ("calls", "behind", "written 1 words behind the array"),
         ("insert", "behind", "written 1 words behind the array"),
+        ("takes", "past-length", "word that stays"),
         ("calls", "past-length", "word that stays"),
         ("insert", "past-length", "word that stays"),
         ("calls", "setup-clears", "word that stays"),
+        ("takes", "unused-words", "unused book word 200"),
         ("calls", "unused-words", "unused book word 200"),
         ("insert", "unused-words", "unused book word 200"),
         (
@@ -140,12 +189,16 @@ fn writes_where_none_are_allowed() {
 fn faults_that_need_a_session() {
     let report = seen("calls", "late");
     assert!(report.starts_with("emptying session"), "{report}");
-    let output = compare(
-        &["insert", "--arrays", "0", "--session-calls", "4000"],
-        "late",
-    );
-    assert_eq!(output.status.code(), Some(1));
-    assert!(text(&output).contains(", session of "));
+    // No setup stands between calls on arrays of their own, so there are sessions alone.
+    for (group, told) in [
+        ("takes", ", emptying session of "),
+        ("insert", ", session of "),
+    ] {
+        let arguments = [group, "--arrays", "0", "--session-calls", "4000"];
+        let output = compare(&arguments, "late");
+        assert_eq!(output.status.code(), Some(1));
+        assert!(text(&output).contains(told), "{}", text(&output));
+    }
 }
 
 /// The same seed gives the same arrays, wherever the comparison begins.

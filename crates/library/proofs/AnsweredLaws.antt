@@ -1,0 +1,21 @@
+-- A call's outcome, handed back by number.
+use mathlib.Core.Path.{_≡_, sym, ap, _∙_}
+use mathlib.Core.Bool.{Bool}
+use mathlib.Core.List.{List}
+use Prim.Native.Nat.{ℕ}
+use Rattle.rules.specs.declared.Answer.{Answer}
+use Rattle.rules.specs.Answers.{isDone, numberOf}
+use Rattle.rules.specs.Calls as rules
+use Rattle.queue.specs.Calls.{Called}
+use Rattle.library.specs.Answered.{Answered}
+
+pub answered : (ws ws′ : List ℕ) (o : rules.Outcome) (answer : Answer) (number word steps : ℕ) (packed : Bool)
+    → Called ws ws′ o answer word steps packed → number ≡ numberOf answer → Answered ws ws′ o number word steps
+answered ws ws′ o answer number word steps packed called number-of = record {
+  number-is = number-of ∙ ap numberOf (called .answer-is);
+  word-is = called .word-is;
+  steps-are = called .steps-are;
+  refused = λ no. called .refused (ap isDone (called .answer-is) ∙ no);
+  queue-is = λ yes. called .queue-is (ap isDone (called .answer-is) ∙ yes);
+  sound-is = λ yes. called .sound-is (ap isDone (called .answer-is) ∙ yes);
+}

@@ -1,0 +1,18 @@
+-- What an exported call promises: the answer's number, the words it gives back, and the array as the rules determine it.
+use mathlib.Core.Path.{_≡_}
+use mathlib.Core.Bool.{true, false}
+use mathlib.Core.List.{List}
+use Prim.Native.Nat.{ℕ}
+use Rattle.rules.specs.Answers.{isDone, numberOf}
+use Rattle.rules.specs.Book.{sound}
+use Rattle.rules.specs.Calls as rules
+use Rattle.buffers.specs.Format.{bookOf, lentOf}
+
+-- "Every refusal changes nothing; every accepted call leaves a book that keeps all book rules"
+pub record Answered (ws ws′ : List ℕ) (o : rules.Outcome) (number word steps : ℕ) : Type 0 where
+  pub number-is : number ≡ numberOf (o .answer)
+  pub word-is : word ≡ o .word
+  pub steps-are : steps ≡ o .steps
+  pub refused : isDone (o .answer) ≡ false → ws′ ≡ ws
+  pub queue-is : isDone (o .answer) ≡ true → rules.queueOf (lentOf ws′) ≡ o .queue
+  pub sound-is : isDone (o .answer) ≡ true → sound (bookOf ws′) ≡ true
