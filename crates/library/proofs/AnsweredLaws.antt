@@ -15,6 +15,7 @@ answered ws ws′ o answer number word steps packed called number-of = record {
   number-is = number-of ∙ ap numberOf (called .answer-is);
   word-is = called .word-is;
   steps-are = called .steps-are;
+  past = called .past;
   refused = λ no. called .refused (ap isDone (called .answer-is) ∙ no);
   queue-is = λ yes. called .queue-is (ap isDone (called .answer-is) ∙ yes);
   sound-is = λ yes. called .sound-is (ap isDone (called .answer-is) ∙ yes);

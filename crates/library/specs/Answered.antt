@@ -2,17 +2,20 @@
 use mathlib.Core.Path.{_≡_}
 use mathlib.Core.Bool.{true, false}
 use mathlib.Core.List.{List}
-use Prim.Native.Nat.{ℕ}
+use Prim.Native.Nat.{ℕ, _≤_}
+use lib.ListN.{getD}
+use Rattle.rules.specs.Links.{words}
 use Rattle.rules.specs.Answers.{isDone, numberOf}
 use Rattle.rules.specs.Book.{sound}
 use Rattle.rules.specs.Calls as rules
-use Rattle.buffers.specs.Format.{bookOf, lentOf}
+use Rattle.buffers.specs.Format.{linksIn, bookOf, lentOf}
 
--- "Every refusal changes nothing; every accepted call leaves a book that keeps all book rules"
+-- no word past the stated length changes; "Every refusal changes nothing; every accepted call leaves a book that keeps all book rules"
 pub record Answered (ws ws′ : List ℕ) (o : rules.Outcome) (number word steps : ℕ) : Type 0 where
   pub number-is : number ≡ numberOf (o .answer)
   pub word-is : word ≡ o .word
   pub steps-are : steps ≡ o .steps
+  pub past : (p : ℕ) → words (linksIn ws′) ≤ p → getD ws′ p 0 ≡ getD ws p 0
   pub refused : isDone (o .answer) ≡ false → ws′ ≡ ws
   pub queue-is : isDone (o .answer) ≡ true → rules.queueOf (lentOf ws′) ≡ o .queue
   pub sound-is : isDone (o .answer) ≡ true → sound (bookOf ws′) ≡ true

@@ -19,6 +19,23 @@ pub extern "C" fn gorgalhut_book_sound(array: &[u64]) -> bool
     buffers::sound::book_sound(array)
 }
 
+// Makes an empty queue of so many links.
+#[no_mangle]
+pub extern "C" fn gorgalhut_setup(
+    array: &mut [u64],
+    links: u64,
+    word: &mut u64,
+    steps: &mut u64,
+) -> u8
+    ensures { λ r. ⌜ Answered (now (array .entry)) (now (array .exit)) (rules.setup links (lentOf (now (array .entry)))) r (now (word .exit)) (now (steps .exit)) ⌝ }
+{
+    let made = queue::setup(array, links);
+    *word = made.word;
+    *steps = made.steps;
+    let answer = made.answer;
+    rules::number_of(answer)
+}
+
 // Takes the smallest entry held; `word` is the entry.
 #[no_mangle]
 pub extern "C" fn gorgalhut_take(array: &mut [u64], word: &mut u64, steps: &mut u64) -> u8
