@@ -11,7 +11,7 @@ use Rattle.rules.specs.declared.Answer.{Answer}
 use Rattle.rules.specs.declared.Answer.the-variants.{Done, NoSuchLinks, ArrayShort}
 use Rattle.rules.specs.Answers.{isDone}
 use Rattle.rules.specs.Tests.{_and_}
-use Rattle.rules.specs.Links.{from, bufferCount, words, mostLinks, LinkNumber}
+use Rattle.rules.specs.Links.{from, bufferCount, bookWords, words, mostLinks, LinkNumber}
 use Rattle.rules.specs.Tree.{Buffers, Tree, exhausted, buffer, merger, treeOf}
 use Rattle.rules.specs.Queue.{Queue, fresh}
 use Rattle.rules.specs.Book.{isLinkNumber, sound}
@@ -26,7 +26,7 @@ use Rattle.buffers.specs.Post.{Inside}
 use Rattle.buffers.proofs.SlotLaws.{words-end, behind-book, few, some}
 use Rattle.buffers.specs.Fresh.{CanBegin, Begun}
 use Rattle.mergers.specs.Fills.{MarksRight}
-use Rattle.queue.specs.Calls.{Called}
+use Rattle.queue.specs.Calls.{Called, SlotsKept}
 use Rattle.queue.proofs.BookLaws.{sound-after}
 use Rattle.queue.proofs.CallLaws.{refused-called, accepted-called, accepted-is, refused-is, done-is}
 
@@ -129,3 +129,8 @@ module _ (ws : List ℕ) (links : ℕ) where
       (fresh-sound ws ws′ links can b)
       (b .long)
       (λ p h. b .behind p (omega (arith, words-end (fresh-inside ws ws′ links can b .link), behind-book (bufferCount (linksIn ws′)), few (can .link))))
+
+-- "slots keep their words"
+pub slots-kept : (ws ws′ : List ℕ) (links : ℕ) → LinkNumber links → Begun ws ws′ links → SlotsKept ws ws′
+unfolding bookWords
+slots-kept ws ws′ links link b p h = b .behind p (omega (arith, few link))

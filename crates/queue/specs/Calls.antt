@@ -4,7 +4,7 @@ use mathlib.Core.Bool.{Bool, true, false}
 use mathlib.Core.List.{List}
 use Prim.Native.Nat.{ℕ, _≤_}
 use lib.ListN.{length, getD}
-use Rattle.rules.specs.Links.{words}
+use Rattle.rules.specs.Links.{bookWords, words}
 use Rattle.rules.specs.declared.Answer.{Answer}
 use Rattle.rules.specs.Answers.{isDone}
 use Rattle.rules.specs.Book.{sound}
@@ -22,3 +22,7 @@ pub record Called (ws ws′ : List ℕ) (o : rules.Outcome) (answer : Answer) (w
   pub refused : isDone answer ≡ false → ws′ ≡ ws
   pub queue-is : isDone answer ≡ true → rules.queueOf (lentOf ws′) ≡ o .queue
   pub sound-is : isDone answer ≡ true → sound (bookOf ws′) ≡ true
+
+-- "slots keep their words": every word behind the book is as it was
+abbrev pub SlotsKept : List ℕ → List ℕ → Type 0
+SlotsKept ws ws′ = (p : ℕ) → bookWords ≤ p → getD ws′ p 0 ≡ getD ws p 0

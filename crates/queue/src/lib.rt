@@ -19,9 +19,12 @@ ghost use Rattle.rules.specs.Queue.{heldFrom};
 ghost use Rattle.buffers.specs.Format.{bookOf, lentOf, linksIn, many};
 ghost use Rattle.buffers.specs.Post.{Inside};
 ghost use Rattle.queue.specs.Heads.{CanTake, Took, sourceOf, headIn};
-ghost use Rattle.queue.specs.Calls.{Called};
+ghost use Rattle.queue.specs.Calls.{Called, SlotsKept};
 use rules::Answer;
 use rules::Link;
+
+// What a call reports where no merge step is made.
+const NO_STEP: u64 = 0;
 
 // Where the smaller head stands.
 pub enum Source {
@@ -38,7 +41,7 @@ pub fn make_ready(a: &mut [u64], last: usize) -> u64
     if mergers::wants_in(a, last, 1, 1) {
         return mergers::fill(a, last, 1, 0);
     }
-    0
+    NO_STEP
 }
 
 // Which of A(1) and I has the smaller head, at equality A(1); A(1) counts only if a link does.
@@ -186,6 +189,7 @@ pub fn refusal(answer: Answer) -> Outcome
 // Makes an empty queue of so many links.
 pub fn setup(a: &mut [u64], links: u64) -> Outcome
     ensures { λ r. ⌜ Called (now (a .entry)) (now (a .exit)) (rules.setup links (lentOf (now (a .entry)))) (r .answer) (r .word) (r .steps) (r .packed) ⌝ }
+    ensures { λ r. ⌜ SlotsKept (now (a .entry)) (now (a .exit)) ⌝ }
 {
     if links < 1 {
         return refusal(Answer::NoSuchLinks);

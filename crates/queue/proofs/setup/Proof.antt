@@ -1,12 +1,12 @@
 -- `setup` makes the fresh queue, or gives the first failing check.
-use mathlib.Core.Path.{_≡_, ap, _∙_}
+use mathlib.Core.Path.{_≡_, refl, ap, _∙_}
 use native.Mathlib.Omega.{arith}
 use Rattle.rules.specs.declared.Answer.the-variants.{NoSuchLinks, ArrayShort}
-use Rattle.rules.specs.Links.{words}
+use Rattle.rules.specs.Links.{words, LinkNumber}
 use Rattle.rules.specs.Calls.{setup}
 use Rattle.buffers.specs.Format.{lentOf}
 use Rattle.queue.proofs.CallLaws.{told}
-use Rattle.queue.proofs.SetupLaws.{too-few, too-many, too-short, setup-called}
+use Rattle.queue.proofs.SetupLaws.{too-few, too-many, too-short, setup-called, slots-kept}
 use borrow.Author.Needs.{needs}
 use Rattle.queue.proofs.setup.Statement.{statement}
 use Rattle.queue.proofs.setup.Tie as tie
@@ -19,7 +19,7 @@ returns c =
     let ws = c .before .before .before .args .a .now in
     let l = c .before .before .before .args .links in
     let e = c .refusal .ensures in
-    told ws ws (setup l (lentOf ws)) NoSuchLinks _ _ _ _ (e .0) (e .1 .0) (e .1 .1 .0) (e .1 .1 .1) (too-few ws l (c .before .if1 .taken))
+    (told ws ws (setup l (lentOf ws)) NoSuchLinks _ _ _ _ (e .0) (e .1 .0) (e .1 .1 .0) (e .1 .1 .1) (too-few ws l (c .before .if1 .taken)), λ p h. refl)
 
 refusal-requires-2 : tie.Need-refusal-requires-2
 refusal-requires-2 c κs = search needs
@@ -29,7 +29,7 @@ returns-2 c =
     let ws = c .before .before .before .before .args .a .now in
     let l = c .before .before .before .before .args .links in
     let e = c .refusal2 .ensures in
-    told ws ws (setup l (lentOf ws)) NoSuchLinks _ _ _ _ (e .0) (e .1 .0) (e .1 .1 .0) (e .1 .1 .1) (too-many ws l (c .before .if2 .taken))
+    (told ws ws (setup l (lentOf ws)) NoSuchLinks _ _ _ _ (e .0) (e .1 .0) (e .1 .1 .0) (e .1 .1 .1) (too-many ws l (c .before .if2 .taken)), λ p h. refl)
 
 at-requires : tie.Need-at-requires
 at-requires c κs = search needs
@@ -46,7 +46,7 @@ returns-3 c =
     let ws = c .before .before .before .before .before .before .before .args .a .now in
     let l = c .before .before .before .before .before .before .before .args .links in
     let e = c .refusal3 .ensures in
-    told ws ws (setup l (lentOf ws)) ArrayShort _ _ _ _ (e .0) (e .1 .0) (e .1 .1 .0) (e .1 .1 .1) (too-short ws l (record { low = omega (arith, c .before .before .before .before .before .if1 .left); high = omega (arith, c .before .before .before .before .if2 .left) }) (omega (arith, c .before .if3 .taken)))
+    (told ws ws (setup l (lentOf ws)) ArrayShort _ _ _ _ (e .0) (e .1 .0) (e .1 .1 .0) (e .1 .1 .1) (too-short ws l (record { low = omega (arith, c .before .before .before .before .before .if1 .left); high = omega (arith, c .before .before .before .before .if2 .left) }) (omega (arith, c .before .if3 .taken))), λ p h. refl)
 
 begin-requires : tie.Need-begin-requires
 begin-requires c κs =
@@ -59,7 +59,8 @@ same-length c = search needs
 returns-4 : tie.Need-returns-4
 returns-4 c =
     let need : c .before .before .before .before .before .words .result ≡ words (c .before .before .before .before .before .before .before .before .before .before .args .links) = c .before .before .before .before .before .words .ensures ∙ ap words (c .before .before .before .before .before .before .at .ensures) in
-    setup-called (c .before .before .before .before .before .before .before .before .before .before .args .a .now) (c .before .before .before .before .before .before .before .before .before .before .args .links) _ record { link = record { low = omega (arith, c .before .before .before .before .before .before .before .before .if1 .left); high = omega (arith, c .before .before .before .before .before .before .before .if2 .left) }; enough = omega (arith, c .before .before .before .before .if3 .left) } (c .before .before .begin .ensures)
+    let link : LinkNumber (c .before .before .before .before .before .before .before .before .before .before .args .links) = record { low = omega (arith, c .before .before .before .before .before .before .before .before .if1 .left); high = omega (arith, c .before .before .before .before .before .before .before .if2 .left) } in
+    (setup-called (c .before .before .before .before .before .before .before .before .before .before .args .a .now) (c .before .before .before .before .before .before .before .before .before .before .args .links) _ record { link = record { low = omega (arith, c .before .before .before .before .before .before .before .before .if1 .left); high = omega (arith, c .before .before .before .before .before .before .before .if2 .left) }; enough = omega (arith, c .before .before .before .before .if3 .left) } (c .before .before .begin .ensures), slots-kept _ _ (c .before .before .before .before .before .before .before .before .before .before .args .links) link (c .before .before .begin .ensures))
 
 pub setup-spec : {M : Type 1} → statement M
 setup-spec =
