@@ -4,3 +4,4 @@ pub mod CheckLaws
 pub mod BookLaws
 pub mod CallLaws
 pub mod SetupLaws
+pub mod AgreeLaws
