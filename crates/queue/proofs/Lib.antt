@@ -5,3 +5,4 @@ pub mod BookLaws
 pub mod CallLaws
 pub mod SetupLaws
 pub mod AgreeLaws
+pub mod EmptyLaws

@@ -4,7 +4,7 @@ ghost use Prim.Native.Nat.{ℕ, _+_, _≤_, _<_};
 ghost use Rattle.rules.specs.Entries.{wholeWord};
 ghost use Rattle.rules.specs.Tree.{linksFrom, entries};
 ghost use Rattle.rules.specs.Merge.{mergeStep};
-ghost use Rattle.rules.specs.Take.{ready, takeOne, insertion};
+ghost use Rattle.rules.specs.Take.{ready, takeOne, takeAll, insertion};
 ghost use mathlib.Core.List.{[], _∷_};
 ghost use lib.Dec.{leb};
 ghost use lib.ListN.{getD, drop};
@@ -16,9 +16,11 @@ ghost use Rattle.rules.specs.Calls as rules;
 ghost use mathlib.Core.Bool.{true, false};
 ghost use Rattle.rules.specs.Book.{sound};
 ghost use Rattle.rules.specs.Queue.{heldFrom};
-ghost use Rattle.buffers.specs.Format.{bookOf, lentOf, linksIn, many};
+ghost use Rattle.buffers.specs.Format.{bookOf, lentOf, linksIn};
+ghost use Rattle.rules.specs.Links.{bufferCount};
 ghost use Rattle.buffers.specs.Post.{Inside};
 ghost use Rattle.queue.specs.Heads.{CanTake, Took, sourceOf, headIn};
+ghost use Rattle.queue.specs.Emptying.{CanEmpty, TookAll};
 ghost use Rattle.queue.specs.Calls.{Called, SlotsKept};
 use rules::Answer;
 use rules::Link;
@@ -125,6 +127,29 @@ pub fn take_one(a: &mut [u64], last: usize) -> Taken
     }
 }
 
+// What emptying brought: how many entries, and the merge steps made.
+pub struct Emptied {
+    pub count: usize,
+    pub steps: u64,
+}
+
+// Takes all that I and the first links hold out into the work area; links behind `last` count as exhausted.
+pub fn take_all(a: &mut [u64], last: usize, work: &mut [u64]) -> Emptied
+    requires { ⌜ CanEmpty (now a) last (now work) ⌝ }
+    ensures { λ r. ⌜ TookAll (now (a .entry)) (now (a .exit)) last (takeAll wholeWord (linksFrom 1 last) (buffersOf (now (a .entry)))) (now (work .entry)) (now (work .exit)) (r .count) (r .steps) ⌝ }
+{
+    let count = held_now(a, last) as usize;
+    let mut steps: u64 = 0;
+    let mut n: usize = 0;
+    while n < count {
+        let t = take_one(a, last);
+        work[n] = t.entry;
+        steps = steps + t.steps;
+        n += 1;
+    }
+    Emptied { count, steps }
+}
+
 // The checks that every call but setup makes first: 2 (296 words), 4 (link number), 2 (its words), 4 (the book).
 pub fn checked(a: &[u64]) -> Answer
     ensures { λ r. ⌜ r ≡ firstFailing (arrayChecks (lentOf (now (a .entry))) ((sound (bookOf (now (a .entry))) else Answer.BookBroken) ∷ [])) ⌝ }
@@ -148,10 +173,10 @@ pub fn checked(a: &[u64]) -> Answer
     Answer::BookBroken
 }
 
-// How many entries the queue holds.
+// How many entries stand in I and in the first links, so many of them.
 pub fn held_now(a: &[u64], links: usize) -> u64
-    requires { ⌜ Inside (now a) × (links ≡ linksIn (now a)) ⌝ }
-    ensures { λ r. ⌜ r ≡ heldFrom 0 (many (now (a .entry))) (buffersOf (now (a .entry))) ⌝ }
+    requires { ⌜ Inside (now a) × (links ≤ linksIn (now a)) ⌝ }
+    ensures { λ r. ⌜ r ≡ heldFrom 0 (bufferCount links) (buffersOf (now (a .entry))) ⌝ }
 {
     let end = Link::at(links + 1).first();
     let mut sum: u64 = 0;

@@ -1,5 +1,6 @@
 -- `checked_for_take` gives the first failing check of take and look.
-use mathlib.Core.Path.{refl, sym, _∙_}
+use mathlib.Core.Path.{sym, _∙_}
+use native.Mathlib.Omega.{arith}
 use Rattle.queue.proofs.CallLaws.{refused-early, some-words, held-inside, none-is, some-is}
 use borrow.Author.Needs.{needs}
 use Rattle.queue.proofs.checked_for_take.Statement.{statement}
@@ -18,7 +19,7 @@ shared-slice-read-held-now : tie.Need-shared-slice-read-held-now
 shared-slice-read-held-now c = some-words (c .before .before .before .before .before .args .a .now) (c .before .before .before .checked .result) (c .before .before .before .checked .ensures) (sym (c .before .before .number-of .ensures) ∙ c .before .if1 .left)
 
 held-now-requires : tie.Need-held-now-requires
-held-now-requires c κs = (held-inside (c .before .before .before .before .before .args .a .now) (c .before .before .before .checked .result) (c .before .before .before .checked .ensures) (sym (c .before .before .number-of .ensures) ∙ c .before .if1 .left), refl)
+held-now-requires c κs = (held-inside (c .before .before .before .before .before .args .a .now) (c .before .before .before .checked .result) (c .before .before .before .checked .ensures) (sym (c .before .before .number-of .ensures) ∙ c .before .if1 .left), omega arith)
 
 returns-2 : tie.Need-returns-2
 returns-2 c = none-is (c .before .before .before .before .before .before .before .args .a .now) (c .before .before .before .before .before .checked .result) (c .before .before .before .before .before .checked .ensures) (sym (c .before .before .before .before .number-of .ensures) ∙ c .before .before .before .if1 .left) _ (c .before .held-now .ensures) (c .if2 .taken)

@@ -1,5 +1,6 @@
 -- `held` gives the count, or the first failing check.
-use mathlib.Core.Path.{refl, sym, _∙_}
+use mathlib.Core.Path.{sym, _∙_}
+use native.Mathlib.Omega.{arith}
 use Rattle.rules.specs.Calls.{heldCall}
 use Rattle.buffers.specs.Format.{lentOf}
 use Rattle.queue.proofs.CallLaws.{told, held-refused, some-words, held-inside, held-called}
@@ -27,7 +28,7 @@ shared-slice-read-held-now : tie.Need-shared-slice-read-held-now
 shared-slice-read-held-now c = some-words (c .before .before .before .before .before .args .a .now) (c .before .before .before .checked .result) (c .before .before .before .checked .ensures) (sym (c .before .before .number-of .ensures) ∙ c .before .if1 .left)
 
 held-now-requires : tie.Need-held-now-requires
-held-now-requires c κs = (held-inside (c .before .before .before .before .before .args .a .now) (c .before .before .before .checked .result) (c .before .before .before .checked .ensures) (sym (c .before .before .number-of .ensures) ∙ c .before .if1 .left), refl)
+held-now-requires c κs = (held-inside (c .before .before .before .before .before .args .a .now) (c .before .before .before .checked .result) (c .before .before .before .checked .ensures) (sym (c .before .before .number-of .ensures) ∙ c .before .if1 .left), omega arith)
 
 returns-2 : tie.Need-returns-2
 returns-2 c = held-called (c .before .before .before .before .before .before .args .a .now) (c .before .before .before .before .checked .result) (c .before .before .before .before .checked .ensures) (sym (c .before .before .before .number-of .ensures) ∙ c .before .before .if1 .left) _ (c .held-now .ensures)
