@@ -1,0 +1,5 @@
+pub mod Placing
+pub mod Way
+pub mod Along
+pub mod Refills
+pub mod Laying
