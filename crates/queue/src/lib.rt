@@ -36,7 +36,7 @@ pub enum Source {
 }
 
 // Fills A(1) if it is empty; links behind `last` count as exhausted. Answers the merge steps.
-pub fn make_ready(a: &mut [u64], last: usize) -> u64
+fn make_ready(a: &mut [u64], last: usize) -> u64
     requires { ⌜ CanTake (now a) last ⌝ }
     ensures { λ r. ⌜ Did (now (a .entry)) (now (a .exit)) (linksFrom 1 last) (ready wholeWord (linksFrom 1 last) (buffersOf (now (a .entry)))) r ⌝ }
 {
@@ -47,7 +47,7 @@ pub fn make_ready(a: &mut [u64], last: usize) -> u64
 }
 
 // Which of A(1) and I has the smaller head, at equality A(1); A(1) counts only if a link does.
-pub fn smaller_head(a: &[u64], last: usize) -> Source
+fn smaller_head(a: &[u64], last: usize) -> Source
     requires { ⌜ CanTake (now a) last ⌝ }
     ensures { λ r. ⌜ r ≡ sourceOf (entries (linksFrom 1 last) (buffersOf (now (a .entry)))) (insertion (buffersOf (now (a .entry)))) ⌝ }
 {
@@ -78,7 +78,7 @@ pub fn smaller_head(a: &[u64], last: usize) -> Source
 }
 
 // The first entry of buffer n, whose slots begin at word `at`, leaves it.
-pub fn hand_out(a: &mut [u64], n: usize, at: usize) -> u64
+fn hand_out(a: &mut [u64], n: usize, at: usize) -> u64
     requires { ⌜ Headed (now a) n at ⌝ }
     ensures { λ r. ⌜ r ≡ getD (bufferOf (now (a .entry)) n) 0 0 ⌝ }
     ensures { λ r. ⌜ Now (now (a .entry)) (now (a .exit)) n (drop 1 (bufferOf (now (a .entry)) n)) ⌝ }
@@ -97,7 +97,7 @@ pub struct Taken {
 }
 
 // One take over I and the first links; links behind `last` count as exhausted.
-pub fn take_one(a: &mut [u64], last: usize) -> Taken
+fn take_one(a: &mut [u64], last: usize) -> Taken
     requires { ⌜ CanTake (now a) last ⌝ }
     ensures { λ r. ⌜ Took (now (a .entry)) (now (a .exit)) last (takeOne wholeWord (linksFrom 1 last) (buffersOf (now (a .entry)))) (r .found) (r .entry) (r .steps) ⌝ }
 {
@@ -134,7 +134,7 @@ pub struct Emptied {
 }
 
 // Takes all that I and the first links hold out into the work area; links behind `last` count as exhausted.
-pub fn take_all(a: &mut [u64], last: usize, work: &mut [u64]) -> Emptied
+fn take_all(a: &mut [u64], last: usize, work: &mut [u64]) -> Emptied
     requires { ⌜ CanEmpty (now a) last (now work) ⌝ }
     ensures { λ r. ⌜ TookAll (now (a .entry)) (now (a .exit)) last (takeAll wholeWord (linksFrom 1 last) (buffersOf (now (a .entry)))) (now (work .entry)) (now (work .exit)) (r .count) (r .steps) ⌝ }
 {
@@ -151,7 +151,7 @@ pub fn take_all(a: &mut [u64], last: usize, work: &mut [u64]) -> Emptied
 }
 
 // The checks that every call but setup makes first: 2 (296 words), 4 (link number), 2 (its words), 4 (the book).
-pub fn checked(a: &[u64]) -> Answer
+fn checked(a: &[u64]) -> Answer
     ensures { λ r. ⌜ r ≡ firstFailing (arrayChecks (lentOf (now (a .entry))) ((sound (bookOf (now (a .entry))) else Answer.BookBroken) ∷ [])) ⌝ }
 {
     if a.len() < 296 {
@@ -174,7 +174,7 @@ pub fn checked(a: &[u64]) -> Answer
 }
 
 // How many entries stand in I and in the first links, so many of them.
-pub fn held_now(a: &[u64], links: usize) -> u64
+fn held_now(a: &[u64], links: usize) -> u64
     requires { ⌜ Inside (now a) × (links ≤ linksIn (now a)) ⌝ }
     ensures { λ r. ⌜ r ≡ heldFrom 0 (bufferCount links) (buffersOf (now (a .entry))) ⌝ }
 {
@@ -197,7 +197,7 @@ pub struct Outcome {
 }
 
 // A refusal gives its number, a zero word and zero steps.
-pub fn refusal(answer: Answer) -> Outcome
+fn refusal(answer: Answer) -> Outcome
     ensures { λ r. ⌜ r .answer ≡ answer ⌝ }
     ensures { λ r. ⌜ r .word ≡ 0 ⌝ }
     ensures { λ r. ⌜ r .steps ≡ 0 ⌝ }
@@ -235,7 +235,7 @@ pub fn setup(a: &mut [u64], links: u64) -> Outcome
 }
 
 // The checks of take and look: those of every call, then 6.
-pub fn checked_for_take(a: &[u64]) -> Answer
+fn checked_for_take(a: &[u64]) -> Answer
     ensures { λ r. ⌜ r ≡ firstFailing (takeChecks (lentOf (now (a .entry)))) ⌝ }
 {
     let found = checked(a);
@@ -267,7 +267,7 @@ pub fn take(a: &mut [u64]) -> Outcome
 }
 
 // The head that a take hands out where A(1) is ready; 0 if there is none.
-pub fn head_now(a: &[u64], last: usize) -> u64
+fn head_now(a: &[u64], last: usize) -> u64
     requires { ⌜ CanTake (now a) last ⌝ }
     ensures { λ r. ⌜ r ≡ headIn (mergeStep wholeWord (entries (linksFrom 1 last) (buffersOf (now (a .entry)))) (insertion (buffersOf (now (a .entry))))) ⌝ }
 {
