@@ -7,3 +7,4 @@ pub mod RuleLaws
 pub mod TreeLaws
 pub mod Exact
 pub mod FreshLaws
+pub mod CounterLaws

@@ -4,3 +4,4 @@ pub mod Post
 pub mod Weights
 pub mod Rules
 pub mod Fresh
+pub mod Counters

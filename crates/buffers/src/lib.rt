@@ -1,4 +1,5 @@
 // The lent array: its book and its slots. Only this crate knows where a word lies.
+pub mod counters;
 pub mod fresh;
 pub mod sound;
 

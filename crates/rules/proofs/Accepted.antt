@@ -15,7 +15,7 @@ use Rattle.rules.specs.Queue.{Queue, keyOf, held, fresh}
 use Rattle.rules.specs.Insert.{inserted}
 use Rattle.rules.specs.Order.{inOrder}
 use Rattle.rules.specs.Book.{isLinkNumber, sound}
-use Rattle.rules.specs.Calls.{Lent, queueOf, Outcome, Check, _else_, firstFailing, refused, unless, arrayChecks, setup, insert, takeChecks, theEntry, withBuffers, take, look, heldCall, audit}
+use Rattle.rules.specs.Calls.{Lent, queueOf, Outcome, Check, _else_, firstFailing, refused, unless, arrayChecks, setup, insert, insertChecks, takeChecks, theEntry, withBuffers, take, look, heldCall, audit}
 
 -- ---- checks
 
@@ -102,17 +102,8 @@ module _ (work entry : ℕ) (a : Lent) where
   abbrev links : ℕ
   links = queueOf a .links
 
-  abbrev insertChecks : List Check
-  insertChecks = arrayChecks a (
-      (leb (most links) work else WorkShort)
-      ∷ (sound (a .book) else BookBroken)
-      ∷ (leb (door entry) 2 else DoorAbove)
-      ∷ (ltb (held (queueOf a)) (most links) else Full)
-      ∷ (inserted entry (queueOf a) .fits else NoPlace)
-      ∷ [])
-
-  insert-holds : T (isDone (firstFailing insertChecks)) → MayInsert work entry a
-  unfolding isDone queueOf
+  insert-holds : T (isDone (firstFailing (insertChecks work entry a))) → MayInsert work entry a
+  unfolding isDone queueOf insertChecks
   insert-holds t =
       let q = queueOf a in
       let c₅ = (inserted entry q .fits else NoPlace) ∷ [] in

@@ -79,6 +79,13 @@ unfolding counts sum runAlong
 counts-sum [] bs = refl
 counts-sum (n ∷ ns) bs = omega (arith, counts-sum ns bs, length-append (getD bs n []) (runAlong ns bs))
 
+-- the run along a way has no more than stands in the tree
+pub along-within : {t : Tree} {n : ℕ} {ns : List ℕ} → Way t n ns → (bs : Buffers) → length (runAlong (n ∷ ns) bs) ≤ heldIn t bs
+unfolding runAlong heldIn
+along-within (end {n = n}) bs = omega (arith, length-append (getD bs n []) [])
+along-within (by-first {n = n} {m = m} {ns = ns} w) bs = omega (arith, along-within w bs, length-append (getD bs n []) (runAlong (m ∷ ns) bs))
+along-within (by-second {n = n} {m = m} {ns = ns} w) bs = omega (arith, along-within w bs, length-append (getD bs n []) (runAlong (m ∷ ns) bs))
+
 -- as many outputs as links
 pub length-outputs : (a p : ℕ) → length (outputs a p) ≡ p
 unfolding outputs

@@ -10,9 +10,8 @@ use Rattle.rules.specs.declared.Answer.{Answer}
 use Rattle.rules.specs.declared.Answer.the-variants.{Done}
 use Rattle.rules.specs.Answers.{isDone}
 use Rattle.rules.specs.Tree.{Tree, entries, treeOf}
-use Rattle.rules.specs.Merge.{Step, stop, move, mergeStep}
-use Rattle.rules.specs.Fill.{Filled}
-use Rattle.rules.specs.Take.{ready, takeOne, handOut, insertion}
+use Rattle.rules.specs.Merge.{mergeStep}
+use Rattle.rules.specs.Take.{ready, takeOne, insertion}
 use Rattle.rules.specs.Queue.{Queue, keyOf, fresh}
 use Rattle.rules.specs.Insert.{inserted}
 use Rattle.rules.specs.Links.{s}
@@ -20,6 +19,7 @@ use Rattle.rules.specs.Book.{isLinkNumber, plainBook}
 use Rattle.rules.specs.Calls.{Lent, Outcome, queueOf, refused, withBuffers, insert, take, look, heldCall, audit, afterwards}
 use Rattle.rules.specs.Examples.{Order, setupOf, insertOf, takeIt, lookAt, heldNow, auditIt, call}
 use Rattle.rules.proofs.Weight.{oneIf}
+use Rattle.rules.proofs.Takes.{hand-steps}
 use Rattle.rules.proofs.Accepted.{Refusal, setup-cases, take-cases, look-cases, insert-call-cases, held-cases, audit-cases}
 use Rattle.rules.proofs.History.{Since, then-insert, then-take, then-look, steps-bounds, packings-bound}
 use Rattle.rules.proofs.History as history
@@ -48,11 +48,6 @@ insertsIn true o = oneIf (isDone (o .answer))
 insertsIn false o = 0
 
 -- a look's steps are those of its fill
-hand-steps : (t : Tree) (step : Step) (now : Filled) → handOut t step now .steps ≡ now .steps
-unfolding handOut
-hand-steps t stop now = refl
-hand-steps t (move e xs ys) now = refl
-
 take-steps : (key : ℕ → ℕ) (t : Tree) (q : Queue) → takeOne key t (q .buffers) .steps ≡ ready key t (q .buffers) .steps
 unfolding takeOne
 take-steps key t q = let now = ready key t (q .buffers) in hand-steps t (mergeStep key (entries t (now .buffers)) (insertion (now .buffers))) now

@@ -17,7 +17,7 @@ use Rattle.rules.proofs.Tests.{and-both}
 use Rattle.rules.proofs.Numbers.{Stands}
 use Rattle.rules.proofs.Contents.{view}
 use Rattle.rules.proofs.Frame.{Frame, view-local}
-use Rattle.rules.proofs.Weight.{sumOf, sumOf-ones, sumOf-same, weightIn, weight, weight-seen, owedIn}
+use Rattle.rules.proofs.Weight.{sumOf, sumOf-ones, sumOf-same, weightIn, weight, weight-seen, owedIn, held-weight}
 use Rattle.rules.proofs.Full.{no-entries}
 use Rattle.rules.proofs.Ordered.{Ascends, says-ascends, Ordered, ordered-says, says-ordered}
 use Rattle.rules.proofs.Takes.{takeAll-frame, Beside}
@@ -29,7 +29,7 @@ use Rattle.rules.proofs.Numbering.{links-range, links-stand, links-amon
 use Rattle.rules.proofs.Paths.{along, lay, along-seen, refill-frame, lay-seen, pathInLink-is, link-way, length-fromB, path-way, WayOf, way-of}
 use Rattle.rules.proofs.PathCounts.{lastOf, path-ends, NoMoreBut, refill-no-more, refill-last, refill-outputs, NotOn, not-on-append, not-on-way, refill-other}
 use Rattle.rules.proofs.LayLaws.{lay-keeps, owedOn, depth, lay-owed, NoLater, upTo, no-later, along-ascends, lay-ordered}
-use Rattle.rules.proofs.Along.{links-weight, owedAlong, owedAlong-append, owedOn-seen, owed-counts, runAlong-append, counts-sum, length-outputs, lower, links-lower, no-outputs, outputs-within, not-on-outputs}
+use Rattle.rules.proofs.Along.{links-weight, owedAlong, owedAlong-append, owedOn-seen, owed-counts, runAlong-append, along-within, counts-sum, length-outputs, lower, links-lower, no-outputs, outputs-within, not-on-outputs}
 use Rattle.rules.proofs.Thinned.{Thinned, links-ordered, thinned-beside}
 
 module _ (key : ℕ → ℕ) (links i j : ℕ) (link : 0 < i) (high : i ≤ links) (some-j : 0 < j) (few : j ≤ k i) (bs : Buffers) (many : bufferCount links ≤ length bs) where
@@ -148,9 +148,27 @@ module _ (key : ℕ → ℕ) (links i j : ℕ) (link : 0 < i) (high : i ≤ link
   unfolding insertion
   no-insertion = let e = none in omega arith
 
-  sweep-long : length run ≡ sum (counts (path i j) bs) + z .rest
+  -- what was noted goes back, and the rest is left over
+  pub sweep-long : length run ≡ sum (counts (path i j) bs) + z .rest
   unfolding sweepTo
   sweep-long = omega (arith, run-long, counts-sum (path i j) bs)
+
+  -- the run has no more than is held
+  pub run-within : length run ≤ heldAll tree bs
+  run-within =
+      let w = link-way i j link some-j few n in
+      omega (
+        arith,
+        join-long key (runAlong (pathInLink i j) (emptied .buffers)) (emptied .out),
+        ap length in-link,
+        ap (λ ns. length (runAlong ns bs)) (pathInLink-is i j link some-j few),
+        along-within w bs,
+        takeAll-empties key (links-roomy 1 (i - 1) (omega arith)) bs beside .1,
+        split (λ d e. 1) bs,
+        held-weight tree 0 bs,
+        held-weight before 0 bs,
+        held-weight behind (i - 1) bs,
+      )
 
   -- what is left over for the destination: what stands in I and below the outputs before i
   pub swept-rest : z .rest ≡ length (insertion bs) + lower 1 (i - 1) bs

@@ -67,6 +67,12 @@ tframe-in p = record { as-many = p .as-many; same = λ m some out. p .same m out
 pub tframe-insertion : {t : Tree} (es : List ℕ) (bs : Buffers) → TakeFrame t bs (set bs 0 es)
 tframe-insertion es bs = record { as-many = length-set bs 0 es; same = λ m some out. getD-set-other bs 0 m es [] some }
 
+-- handing out makes no merge step
+pub hand-steps : (t : Tree) (s : Step) (now : Filled) → handOut t s now .steps ≡ now .steps
+unfolding handOut
+hand-steps t stop now = refl
+hand-steps t (move e xs ys) now = refl
+
 hand-frame : (t : Tree) (s : Step) (now : Filled) → TakeFrame t (now .buffers) (handOut t s now .buffers)
 unfolding handOut
 hand-frame t stop now = tframe-none (now .buffers)

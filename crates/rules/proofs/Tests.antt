@@ -1,9 +1,15 @@
 -- Tests one after the other: how to pass them.
 use Prim.Native.Nat.{ℕ, zero, suc, _+_, _≤_, _<_}
+use mathlib.Core.Path.{_≡_, refl}
 use mathlib.Core.Bool.{Bool, true, false}
 use native.Mathlib.Omega.{arith}
 use lib.Dec.{T}
 use Rattle.rules.specs.Tests.{_and_, every}
+
+-- a test that passes is true
+pub truth : (b : Bool) → T b → b ≡ true
+truth true h = refl
+truth false h = absurd h
 
 -- both pass
 pub and-both : (a b : Bool) → T a → T b → T (a and b)

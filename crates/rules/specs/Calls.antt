@@ -73,20 +73,25 @@ setup links a =
     unless (firstFailing ((isLinkNumber links else NoSuchLinks) ∷ (leb (words links) (a .length) else ArrayShort) ∷ [])) (queueOf a) accepted
 
 -- "then insert 3, 4, 7, 5, 8"
-unfoldable pub insert : ℕ → ℕ → Lent → Outcome
-unfolding firstFailing unless arrayChecks most sound door held inserted queueOf
-insert work entry a =
+unfoldable pub insertChecks : ℕ → ℕ → Lent → List Check
+unfolding arrayChecks most sound door held inserted queueOf
+insertChecks work entry a =
     let q = queueOf a in
-    let z = inserted entry q in
-    let accepted : Outcome = record { answer = Done; word = 0; steps = z .steps; packed = z .packed; queue = z .queue } in
-    let checks = arrayChecks a (
+    arrayChecks a (
     (leb (most (q .links)) work else WorkShort)
     ∷ (sound (a .book) else BookBroken)
     ∷ (leb (door entry) 2 else DoorAbove)
     ∷ (ltb (held q) (most (q .links)) else Full)
-    ∷ (z .fits else NoPlace)
-    ∷ []) in
-    unless (firstFailing checks) q accepted
+    ∷ (inserted entry q .fits else NoPlace)
+    ∷ [])
+
+unfoldable pub insert : ℕ → ℕ → Lent → Outcome
+unfolding firstFailing unless insertChecks inserted queueOf
+insert work entry a =
+    let q = queueOf a in
+    let z = inserted entry q in
+    let accepted : Outcome = record { answer = Done; word = 0; steps = z .steps; packed = z .packed; queue = z .queue } in
+    unless (firstFailing (insertChecks work entry a)) q accepted
 
 -- "take and look 4, 6"
 unfoldable pub takeChecks : Lent → List Check
