@@ -1,12 +1,11 @@
 -- The array's book and the rules' queue: what a sound book gives a call, and why the book is sound after it.
 use Prim.Native.Nat.{ℕ, zero, suc, _+_, _-_, _*_, _≤_, _<_}
 use mathlib.Core.Path.{_≡_, refl, sym, ap, _∙_, subst}
-use mathlib.Core.Bool.{Bool, true, false}
+use mathlib.Core.Bool.{true}
 use mathlib.Core.List.{List, [], _∷_, map}
 use native.Mathlib.Omega.{arith}
 use native.Mathlib.Decide.{decLt}
 use borrow.Author.Tests.{eq-eqb, eqb-true}
-use lib.Dec.{T, eqb}
 use lib.ListN.{length, getD, List·getD-eq-default}
 use Rattle.rules.specs.Links.{from, k, first, capacity, numberOfS, bufferCount, words, LinkNumber, InLink}
 use Rattle.rules.specs.Tree.{Buffers, Tree, exhausted, buffer, merger, treeOf, linksFrom}
@@ -14,6 +13,7 @@ use Rattle.rules.specs.Take.{heldIn}
 use Rattle.rules.specs.Queue.{Queue}
 use Rattle.rules.specs.Book.{Book, count, startPlace, marked, c, together, sound, plainBook}
 use Rattle.rules.specs.Calls.{Lent, queueOf}
+use Rattle.rules.proofs.Tests.{truth}
 use Rattle.rules.proofs.Table.{in-link}
 use Rattle.rules.proofs.Numbers.{Stands, itself, output, in-first, in-second}
 use Rattle.rules.proofs.Numbering.{tree-range}
@@ -38,10 +38,6 @@ together-same : (b p : Book) → ((n : ℕ) → count b n ≡ count p n) → (m 
 unfolding together
 together-same b p same m zero = refl
 together-same b p same m (suc n) = omega (arith, same m, together-same b p same (suc m) n)
-
-truth : (t : Bool) → T t → t ≡ true
-truth true h = refl
-truth false h = absurd h
 
 insertion-capacity : capacityOf 0 ≡ 8
 unfolding capacityOf

@@ -21,6 +21,8 @@ use Rattle.rules.specs.Queue.{Queue, keyOf, held, heldFrom}
 use Rattle.rules.specs.Order.{inOrder}
 use Rattle.rules.specs.Book.{isLinkNumber, sound, marked, count}
 use Rattle.rules.specs.Calls.{Lent, Outcome, Check, _else_, firstFailing, refused, unless, arrayChecks, takeChecks, queueOf, withBuffers, theEntry, take, look, heldCall, audit}
+use Rattle.rules.proofs.Tests.{truth}
+use Rattle.rules.proofs.Takes.{hand-steps}
 use Rattle.rules.proofs.BookLaws as rules
 use Rattle.rules.proofs.BookKept.{take-kept, look-kept}
 use Rattle.rules.proofs.Accepted.{Long, MayTake, Refusal, take-cases, held-cases}
@@ -53,10 +55,6 @@ not-done x differ = go (eqb (numberOf x) 0) refl
 
 unlike : true ≡ false → ⊥
 unlike e = subst T e tt
-
-holds : (b : Bool) → T b → b ≡ true
-holds true t = refl
-holds false t = absurd t
 
 -- where no check fails, the call is done
 pub accepted-is : (failing : Answer) (q : Queue) (o : Outcome) → isDone failing ≡ true → unless failing q o ≡ o
@@ -128,7 +126,7 @@ module _ (ws : List ℕ) where
   module _ (long : Long (lentOf ws)) (right : T (sound (lentOf ws .book))) where
     pub book-right : sound (bookOf ws) ≡ true
     unfolding lentOf
-    book-right = holds (sound (bookOf ws)) right
+    book-right = truth (sound (bookOf ws)) right
 
     pub inside : Inside ws
     unfolding lentOf bookOf
@@ -224,15 +222,20 @@ refused-called ws o x f e =
       sound-is = λ g. absurd (unlike (sym g ∙ f));
     }
 
+-- whatever the call: the first failing check is its answer
+pub refusal-called : (ws : List ℕ) (failing : Answer) (accepted : Outcome) (x : Answer) → x ≡ failing → isDone x ≡ false → Called ws ws (unless failing (queueOf (lentOf ws)) accepted) x 0 0 false
+refusal-called ws failing accepted x e f =
+    refused-called ws (unless failing (queueOf (lentOf ws)) accepted) x f (refused-is failing (queueOf (lentOf ws)) accepted (ap isDone (sym e) ∙ f) ∙ ap (λ z. refused z (queueOf (lentOf ws))) (sym e))
+
 -- the same of an outcome with these parts
 pub told : (ws ws′ : List ℕ) (o : Outcome) (x answer : Answer) (word steps : ℕ) (packed : Bool) → answer ≡ x → word ≡ 0 → steps ≡ 0 → packed ≡ false → Called ws ws′ o x 0 0 false → Called ws ws′ o answer word steps packed
 told ws ws′ o x answer word steps packed a w s p z = rw (a, w, s, p) z
 
 -- "every accepted call leaves a book that keeps all book rules"
-pub accepted-called : (ws ws′ : List ℕ) (o : Outcome) (word steps : ℕ) → o .answer ≡ Done → word ≡ o .word → steps ≡ o .steps → o .packed ≡ false → queueOf (lentOf ws′) ≡ o .queue → sound (bookOf ws′) ≡ true
-    → length ws′ ≡ length ws → ((p : ℕ) → words (linksIn ws′) ≤ p → getD ws′ p 0 ≡ getD ws p 0) → Called ws ws′ o Done word steps false
-accepted-called ws ws′ o word steps a w s p q b long past =
-    record { answer-is = sym a; word-is = w; steps-are = s; packed-is = sym p; long = long; past = past; refused = λ g. absurd (unlike (sym (done-is ws) ∙ g)); queue-is = λ g. q; sound-is = λ g. b }
+pub accepted-called : (ws ws′ : List ℕ) (o : Outcome) (word steps : ℕ) (packed : Bool) → o .answer ≡ Done → word ≡ o .word → steps ≡ o .steps → packed ≡ o .packed → queueOf (lentOf ws′) ≡ o .queue → sound (bookOf ws′) ≡ true
+    → length ws′ ≡ length ws → ((p : ℕ) → words (linksIn ws′) ≤ p → getD ws′ p 0 ≡ getD ws p 0) → Called ws ws′ o Done word steps packed
+accepted-called ws ws′ o word steps packed a w s p q b long past =
+    record { answer-is = sym a; word-is = w; steps-are = s; packed-is = p; long = long; past = past; refused = λ g. absurd (unlike (sym (done-is ws) ∙ g)); queue-is = λ g. q; sound-is = λ g. b }
 
 the-one : (found : Bool) (entry : ℕ) (out : List ℕ) → oneIf found entry ≡ out → (found ≡ false → entry ≡ 0) → entry ≡ theEntry out
 unfolding theEntry
@@ -244,23 +247,14 @@ unfolding theEntry handOut headIn
 head-out t stop now = refl
 head-out t (move e xs ys) now = refl
 
-steps-out : (t : Tree) (step : Step) (now : Filled) → handOut t step now .steps ≡ now .steps
-unfolding handOut
-steps-out t stop now = refl
-steps-out t (move e xs ys) now = refl
-
 module _ (ws : List ℕ) (x : Answer) (x-is : x ≡ firstFailing (takeChecks (lentOf ws))) where
   pub take-refused : numberOf x ≢ 0 → Called ws ws (take (lentOf ws)) x 0 0 false
   unfolding take
-  take-refused differ =
-      refused-called ws (take (lentOf ws)) x (not-done x differ)
-      (refused-is (firstFailing (takeChecks (lentOf ws))) (queueOf (lentOf ws)) (take-accepted ws) (ap isDone (sym x-is) ∙ not-done x differ) ∙ ap (λ z. refused z (queueOf (lentOf ws))) (sym x-is))
+  take-refused differ = refusal-called ws (firstFailing (takeChecks (lentOf ws))) (take-accepted ws) x x-is (not-done x differ)
 
   pub look-refused : numberOf x ≢ 0 → Called ws ws (look (lentOf ws)) x 0 0 false
   unfolding look
-  look-refused differ =
-      refused-called ws (look (lentOf ws)) x (not-done x differ)
-      (refused-is (firstFailing (takeChecks (lentOf ws))) (queueOf (lentOf ws)) (look-accepted ws) (ap isDone (sym x-is) ∙ not-done x differ) ∙ ap (λ z. refused z (queueOf (lentOf ws))) (sym x-is))
+  look-refused differ = refusal-called ws (firstFailing (takeChecks (lentOf ws))) (look-accepted ws) x x-is (not-done x differ)
 
   module _ (none-fails : numberOf x ≡ 0) where
     all-hold : isDone (firstFailing (takeChecks (lentOf ws))) ≡ true
@@ -287,11 +281,11 @@ module _ (ws : List ℕ) (x : Answer) (x-is : x ≡ firstFailing (takeChecks (le
         let array = inside ws (may .long) (may .holds) in
         let after : queueOf (lentOf ws′) ≡ withBuffers (queueOf (lentOf ws)) (taken ws .buffers) = same-queue ws ws′ (taken ws .buffers) array (z .kept) (z .state) in
         let k = take-kept 7 (queueOf (lentOf ws)) (shaped ws array) (kept-now ws (may .long) (may .holds)) in
-        accepted-called ws ws′ (take (lentOf ws)) entry steps
+        accepted-called ws ws′ (take (lentOf ws)) entry steps false
         (ap (λ (r : Outcome). r .answer) o)
         (the-one found entry (taken ws .out) (z .out) (z .none) ∙ sym (ap (λ (r : Outcome). r .word) o))
         (z .count ∙ sym (ap (λ (r : Outcome). r .steps) o))
-        (ap (λ (r : Outcome). r .packed) o)
+        (sym (ap (λ (r : Outcome). r .packed) o))
         (after ∙ sym (ap (λ (r : Outcome). r .queue) o))
         (sound-still ws′ (z .array) (z .kept) (z .marks) (z .mark-of-I) (z .fewer-in-I) (subst (rules.Kept 7) (sym after) k))
         (z .kept .long)
@@ -310,11 +304,11 @@ module _ (ws : List ℕ) (x : Answer) (x-is : x ≡ firstFailing (takeChecks (le
         let I-word = word-of-I ws (linksIn ws) may-can ws′ steps d in
         let after : queueOf (lentOf ws′) ≡ withBuffers (queueOf (lentOf ws)) (now .buffers) = same-queue ws ws′ (now .buffers) array (d .kept) (d .state) in
         let k = look-kept 7 (queueOf (lentOf ws)) (shaped ws array) (kept-now ws (may .long) (may .holds)) in
-        accepted-called ws ws′ (look (lentOf ws)) word steps
+        accepted-called ws ws′ (look (lentOf ws)) word steps false
         (ap (λ (r : Outcome). r .answer) o)
         (w ∙ sym (head-out t step now) ∙ sym (ap (λ (z : Taken). theEntry (z .out)) same) ∙ sym (ap (λ (r : Outcome). r .word) o))
-        (d .count ∙ sym (steps-out t step now) ∙ sym (ap (λ (z : Taken). z .steps) same) ∙ sym (ap (λ (r : Outcome). r .steps) o))
-        (ap (λ (r : Outcome). r .packed) o)
+        (d .count ∙ sym (hand-steps t step now) ∙ sym (ap (λ (z : Taken). z .steps) same) ∙ sym (ap (λ (r : Outcome). r .steps) o))
+        (sym (ap (λ (r : Outcome). r .packed) o))
         (after ∙ sym (ap (λ (r : Outcome). r .queue) o))
         (sound-still ws′ (d .array) (d .kept) (d .marks) (ap markIn I-word) (rw I-word (omega arith)) (subst (rules.Kept 7) (sym after) k))
         (d .kept .long)
@@ -329,9 +323,7 @@ module _ (ws : List ℕ) (x : Answer) (x-is : x ≡ firstFailing (takeChecks (le
 module _ (ws : List ℕ) (x : Answer) (x-is : x ≡ common ws) where
   pub held-refused : numberOf x ≢ 0 → Called ws ws (heldCall (lentOf ws)) x 0 0 false
   unfolding heldCall lentOf
-  held-refused differ =
-      refused-called ws (heldCall (lentOf ws)) x (not-done x differ)
-      (refused-is (common ws) (queueOf (lentOf ws)) (held-accepted ws) (ap isDone (sym x-is) ∙ not-done x differ) ∙ ap (λ z. refused z (queueOf (lentOf ws))) (sym x-is))
+  held-refused differ = refusal-called ws (common ws) (held-accepted ws) x x-is (not-done x differ)
 
   abbrev in-order : Bool
   in-order = inOrder (keyOf (queueOf (lentOf ws))) (treeOf (queueOf (lentOf ws) .links)) (queueOf (lentOf ws) .buffers)
@@ -344,7 +336,7 @@ module _ (ws : List ℕ) (x : Answer) (x-is : x ≡ common ws) where
 
   audit-refusal : (y : Answer) → y ≡ firstFailing audit-checks → isDone y ≡ false → Called ws ws (audit (lentOf ws)) y 0 0 false
   unfolding audit lentOf
-  audit-refusal y e f = refused-called ws (audit (lentOf ws)) y f (refused-is (firstFailing audit-checks) (queueOf (lentOf ws)) audit-accepted (ap isDone (sym e) ∙ f) ∙ ap (λ z. refused z (queueOf (lentOf ws))) (sym e))
+  audit-refusal y e f = refusal-called ws (firstFailing audit-checks) audit-accepted y e f
 
   pub audit-refused : numberOf x ≢ 0 → Called ws ws (audit (lentOf ws)) x 0 0 false
   audit-refused differ = audit-refusal x (refused-before ws ((in-order else OrderBroken) ∷ []) x x-is differ) (not-done x differ)
@@ -368,11 +360,11 @@ module _ (ws : List ℕ) (x : Answer) (x-is : x ≡ common ws) where
       unfolding held queueOf lentOf bookOf
       held-called =
           let o = held-is ws book-holds in
-          accepted-called ws ws (heldCall (lentOf ws)) n 0
+          accepted-called ws ws (heldCall (lentOf ws)) n 0 false
           (ap (λ (r : Outcome). r .answer) o)
           (n-is ∙ sym (ap (λ (r : Outcome). r .word) o))
           (sym (ap (λ (r : Outcome). r .steps) o))
-          (ap (λ (r : Outcome). r .packed) o)
+          (sym (ap (λ (r : Outcome). r .packed) o))
           (sym (ap (λ (r : Outcome). r .queue) o))
           (book-right ws (may-now .0) (may-now .1))
           refl
@@ -403,11 +395,11 @@ module _ (ws : List ℕ) (x : Answer) (x-is : x ≡ common ws) where
       audit-called e =
           let all : firstFailing audit-checks ≡ Done = audit-answer ∙ ap (λ b. elim b [ true ↦ Done | false ↦ OrderBroken ]) e in
           let o : audit (lentOf ws) ≡ audit-accepted = accepted-is (firstFailing audit-checks) (queueOf (lentOf ws)) audit-accepted (ap isDone all ∙ done-is ws) in
-          accepted-called ws ws (audit (lentOf ws)) 0 0
+          accepted-called ws ws (audit (lentOf ws)) 0 0 false
           (ap (λ (r : Outcome). r .answer) o)
           (sym (ap (λ (r : Outcome). r .word) o))
           (sym (ap (λ (r : Outcome). r .steps) o))
-          (ap (λ (r : Outcome). r .packed) o)
+          (sym (ap (λ (r : Outcome). r .packed) o))
           (sym (ap (λ (r : Outcome). r .queue) o))
           (book-right ws (may-now .0) (may-now .1))
           refl

@@ -19,6 +19,7 @@ use Rattle.rules.specs.Book.{isLinkNumber, sound}
 use Rattle.rules.specs.Calls.{Lent, firstFailing, arrayChecks, Check, _else_}
 use Rattle.rules.proofs.Table.{words-at}
 use Rattle.rules.proofs.Sizes.{first-mono}
+use Rattle.rules.proofs.BookLaws.{number-is}
 use Rattle.buffers.specs.Format.{linksIn, bookOf, lentOf, countOf, bufferOf, buffersOf, many}
 use Rattle.buffers.specs.Post.{Inside}
 use Rattle.buffers.proofs.SlotLaws.{few}
@@ -52,15 +53,14 @@ module _ (ws : List ℕ) (checks : List Check) where
     many-links h = sym (answer-now true false (leb (words links) (length ws)) long-is (let low : 1 ≤ links = omega arith in rw (le-leb 1 links low, lt-leb links 4 h)) refl)
 
     module _ (low : 1 ≤ links) (high : links ≤ 4) where
-      number-is : isLinkNumber links ≡ true
-      unfolding isLinkNumber mostLinks
-      number-is = rw (le-leb 1 links low, le-leb links 4 high)
+      link : LinkNumber links
+      link = record { low = low; high = high }
 
       pub short-for-links : length ws < words links → ArrayShort ≡ firstFailing (arrayChecks (lentOf ws) checks)
-      short-for-links h = sym (answer-now true true false long-is number-is (lt-leb (words links) (length ws) h))
+      short-for-links h = sym (answer-now true true false long-is (number-is link) (lt-leb (words links) (length ws) h))
 
       pub long-enough : words links ≤ length ws → firstFailing checks ≡ firstFailing (arrayChecks (lentOf ws) checks)
-      long-enough h = sym (answer-now true true true long-is number-is (le-leb (words links) (length ws) h))
+      long-enough h = sym (answer-now true true true long-is (number-is link) (le-leb (words links) (length ws) h))
 
 pub book-right : (t : Bool) → t ≡ true → Done ≡ firstFailing ((t else BookBroken) ∷ [])
 unfolding firstFailing

@@ -12,11 +12,11 @@ use Rattle.rules.specs.Entries.{wholeWord}
 use Rattle.rules.specs.Links.{first, bufferCount, InLink, LinkNumber}
 use Rattle.rules.specs.Tree.{Buffers, Tree, exhausted, linksFrom, treeOf, entries}
 use Rattle.rules.specs.Fill.{Filled, ifEmpty, untouched, fill}
-use Rattle.rules.specs.Merge.{Step, stop, move, mergeStep}
-use Rattle.rules.specs.Take.{Taken, takeOne, takes, takeAll, ready, handOut, insertion, heldIn}
+use Rattle.rules.specs.Merge.{mergeStep}
+use Rattle.rules.specs.Take.{Taken, takeOne, takes, takeAll, ready, insertion, heldIn}
 use Rattle.rules.specs.Queue.{Queue, held, heldFrom}
 use Rattle.rules.proofs.Held.{held-split}
-use Rattle.rules.proofs.Takes.{Beside, ready-cases}
+use Rattle.rules.proofs.Takes.{hand-steps, Beside, ready-cases}
 use Rattle.rules.proofs.TakeLaws.{heldAll, take-one, take-held}
 use Rattle.rules.proofs.BookKept.{beside-tree}
 use Rattle.rules.proofs.Numbers.{Among}
@@ -66,11 +66,6 @@ one-more : (last : ℕ) → first (1 + last) ≡ bufferCount last
 unfolding bufferCount
 one-more last = ap first (one-add last)
 
-steps-out : (t : Tree) (step : Step) (now : Filled) → handOut t step now .steps ≡ now .steps
-unfolding handOut
-steps-out t stop now = refl
-steps-out t (move e xs ys) now = refl
-
 tree-roomy-first : (last : ℕ) → Roomy (linksFrom 1 last)
 unfolding treeOf
 tree-roomy-first last = tree-roomy last
@@ -104,7 +99,7 @@ module _ (ws : List ℕ) (last : ℕ) (h : CanTake ws last) where
 
   pub take-few : takeOne wholeWord t (buffersOf ws) .steps ≤ 4000000000
   unfolding takeOne
-  take-few = let now = ready wholeWord t (buffersOf ws) in rw (steps-out t (mergeStep wholeWord (entries t (now .buffers)) (insertion (now .buffers))) now) ready-few
+  take-few = let now = ready wholeWord t (buffersOf ws) in rw (hand-steps t (mergeStep wholeWord (entries t (now .buffers)) (insertion (now .buffers))) now) ready-few
 
   -- all that stands in I and in the first links
   pub all-held : heldFrom 0 (bufferCount last) (buffersOf ws) ≡ heldAll t (buffersOf ws)

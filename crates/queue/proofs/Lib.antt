@@ -6,3 +6,9 @@ pub mod CallLaws
 pub mod SetupLaws
 pub mod AgreeLaws
 pub mod EmptyLaws
+pub mod MarkLaws
+pub mod SweepLaws
+pub mod PackLaws
+pub mod LowestLaws
+pub mod InsertCheckLaws
+pub mod InsertLaws

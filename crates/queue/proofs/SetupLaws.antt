@@ -28,17 +28,18 @@ use Rattle.buffers.specs.Fresh.{CanBegin, Begun}
 use Rattle.mergers.specs.Fills.{MarksRight}
 use Rattle.queue.specs.Calls.{Called, SlotsKept}
 use Rattle.queue.proofs.BookLaws.{sound-after}
-use Rattle.queue.proofs.CallLaws.{refused-called, accepted-called, accepted-is, refused-is, done-is}
+use Rattle.queue.proofs.CallLaws.{refusal-called, accepted-called, accepted-is, done-is}
 
 each-one : {A : Type 0} (f : ℕ → A) (x : A) (i n : ℕ) → ((m : ℕ) → i ≤ m → m < i + n → f m ≡ x) → map f (from i n) ≡ replicate n x
 unfolding from
 each-one f x i zero same = refl
 each-one f x i (suc n) same = λ p. same i (omega arith) (omega arith) p ∷ each-one f x (suc i) n (λ m low high. same m (omega arith) (omega arith)) p
 
-marks-none : (ws : List ℕ) (t : Tree) → ((m : ℕ) → Stands m t → markOf ws m ≡ 0) → MarksRight ws t
-marks-none ws exhausted h = tt
-marks-none ws (buffer n c) h = λ e. absurd (omega (arith, h n itself))
-marks-none ws (merger n c one two) h = (λ e. absurd (omega (arith, h n output)), marks-none ws one (λ m s. h m (in-first s)), marks-none ws two (λ m s. h m (in-second s)))
+-- where no mark stands, all are right
+pub unmarked : (ws : List ℕ) (t : Tree) → ((m : ℕ) → Stands m t → markOf ws m ≡ 0) → MarksRight ws t
+unmarked ws exhausted h = tt
+unmarked ws (buffer n c) h = λ e. absurd (omega (arith, h n itself))
+unmarked ws (merger n c one two) h = (λ e. absurd (omega (arith, h n output)), unmarked ws one (λ m s. h m (in-first s)), unmarked ws two (λ m s. h m (in-second s)))
 
 module _ (ws ws′ : List ℕ) (links : ℕ) (can : CanBegin ws links) (b : Begun ws ws′ links) where
   word-zero : (n : ℕ) → n < many ws′ → wordOf ws′ n ≡ 0
@@ -64,15 +65,11 @@ module _ (ws ws′ : List ℕ) (links : ℕ) (can : CanBegin ws links) (b : Begu
       rw (b .number) (each-one (bufferOf ws′) [] 0 (bufferCount links) (λ m low high. no-entries m (omega arith))) in
       λ p. record { links = b .number p; counters = counters p; buffers = buffers p }
 
-  number-holds : isLinkNumber links ≡ true
-  unfolding isLinkNumber mostLinks
-  number-holds = rw (le-leb 1 links (can .link .low), le-leb links 4 (can .link .high))
-
   fresh-sound : sound (bookOf ws′) ≡ true
   fresh-sound =
       sound-after ws′ fresh-inside
-      (subst (rules.Kept 7) (sym fresh-queue) (fresh-kept links (subst T (sym number-holds) tt)))
-      (marks-none ws′ (treeOf (linksIn ws′)) (λ m s. ap markIn (word-zero m (tree-range (linksIn ws′) s .1))))
+      (subst (rules.Kept 7) (sym fresh-queue) (fresh-kept links (subst T (sym (rules.number-is (can .link))) tt)))
+      (unmarked ws′ (treeOf (linksIn ws′)) (λ m s. ap markIn (word-zero m (tree-range (linksIn ws′) s .1))))
       (λ e. ap countIn (word-zero 0 (omega (arith, some (fresh-inside .link)))))
 
 -- ---- its checks
@@ -90,7 +87,7 @@ module _ (ws : List ℕ) (links : ℕ) where
 
   setup-refusal : (y : Answer) → y ≡ firstFailing checks → isDone y ≡ false → Called ws ws (setup links (lentOf ws)) y 0 0 false
   unfolding setup lentOf
-  setup-refusal y e f = refused-called ws (setup links (lentOf ws)) y f (refused-is (firstFailing checks) (queueOf (lentOf ws)) accepted (ap isDone (sym e) ∙ f) ∙ ap (λ z. refused z (queueOf (lentOf ws))) (sym e))
+  setup-refusal y e f = refusal-called ws (firstFailing checks) accepted y e f
 
   -- "1 | no such number of links"
   not-a-number : isLinkNumber links ≡ false → Called ws ws (setup links (lentOf ws)) NoSuchLinks 0 0 false
@@ -106,25 +103,21 @@ module _ (ws : List ℕ) (links : ℕ) where
   too-many h = not-a-number (let low : 1 ≤ links = omega arith in rw (le-leb 1 links low, lt-leb links 4 h))
 
   module _ (link : LinkNumber links) where
-    is-number : isLinkNumber links ≡ true
-    unfolding isLinkNumber mostLinks
-    is-number = rw (le-leb 1 links (link .low), le-leb links 4 (link .high))
-
     -- "2 | array too short"
     pub too-short : length ws < words links → Called ws ws (setup links (lentOf ws)) ArrayShort 0 0 false
     unfolding isDone
-    too-short h = setup-refusal ArrayShort (sym (answer-now true false is-number (lt-leb (words links) (length ws) h))) refl
+    too-short h = setup-refusal ArrayShort (sym (answer-now true false (rules.number-is link) (lt-leb (words links) (length ws) h))) refl
 
   pub setup-called : (ws′ : List ℕ) → CanBegin ws links → Begun ws ws′ links → Called ws ws′ (setup links (lentOf ws)) Done 0 0 false
   unfolding setup lentOf
   setup-called ws′ can b =
-      let all : firstFailing checks ≡ Done = answer-now true true (is-number (can .link)) (le-leb (words links) (length ws) (can .enough)) in
+      let all : firstFailing checks ≡ Done = answer-now true true (rules.number-is (can .link)) (le-leb (words links) (length ws) (can .enough)) in
       let o : setup links (lentOf ws) ≡ accepted = accepted-is (firstFailing checks) (queueOf (lentOf ws)) accepted (ap isDone all ∙ done-is ws) in
-      accepted-called ws ws′ (setup links (lentOf ws)) 0 0
+      accepted-called ws ws′ (setup links (lentOf ws)) 0 0 false
       (ap (λ (r : Outcome). r .answer) o)
       (sym (ap (λ (r : Outcome). r .word) o))
       (sym (ap (λ (r : Outcome). r .steps) o))
-      (ap (λ (r : Outcome). r .packed) o)
+      (sym (ap (λ (r : Outcome). r .packed) o))
       (fresh-queue ws ws′ links can b ∙ sym (ap (λ (r : Outcome). r .queue) o))
       (fresh-sound ws ws′ links can b)
       (b .long)

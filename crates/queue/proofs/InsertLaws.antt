@@ -1,0 +1,323 @@
+-- An insert over the array: the entry is in I, room is made where I then has 8, and all is as the rules say.
+use Prim.Native.Nat.{ℕ, zero, suc, _+_, _-_, _≤_, _<_}
+use mathlib.Core.Path.{_≡_, refl, sym, ap, _∙_, subst}
+use mathlib.Core.Logic.{_≢_}
+use mathlib.Core.Bool.{Bool, true, false}
+use mathlib.Core.List.{List, [], _∷_}
+use native.Mathlib.Omega.{arith}
+use borrow.Author.Tests.{le-leb, lt-leb, eq-eqb, eqb-true}
+use lib.Dec.{T, T-not, leb, eqb}
+use lib.ListN.{length, getD, set}
+use lib.Seq.{getD-set-other}
+use Rattle.rules.specs.declared.Answer.{Answer}
+use Rattle.rules.specs.declared.Answer.the-variants.{Done}
+use Rattle.rules.specs.Answers.{numberOf, isDone}
+use Rattle.rules.specs.Entries.{wholeWord}
+use Rattle.rules.specs.Links.{k, first, most, numberOfS, bufferCount, words, LinkNumber}
+use Rattle.rules.specs.Tree.{Buffers, Tree, linksFrom, treeOf}
+use Rattle.rules.specs.Take.{insertion}
+use Rattle.rules.specs.Queue.{Queue, keyOf, counter, held, heldFrom}
+use Rattle.rules.specs.Book.{sound}
+use Rattle.rules.specs.Insert.{placed, lowest, Inserted, swept, packed, entered, makeRoom, inserted}
+use Rattle.rules.specs.Calls.{Outcome, queueOf, withBuffers, firstFailing, insertChecks, refused, insert}
+use Rattle.rules.proofs.Tests.{truth}
+use Rattle.rules.proofs.Numbers.{Stands}
+use Rattle.rules.proofs.Sizes.{first-one}
+use Rattle.rules.proofs.Numbering.{links-range, tree-range, s-stands}
+use Rattle.rules.proofs.Held.{held-split}
+use Rattle.rules.proofs.TakeLaws.{heldAll}
+use Rattle.rules.proofs.PathCounts.{Lowest, lowest-is}
+use Rattle.rules.proofs.BookLaws as rules
+use Rattle.rules.proofs.BookKept.{Shaped}
+use Rattle.rules.proofs.SweepKept.{swept-fits}
+use Rattle.rules.proofs.InsertLaws.{now-kept, inserted-kept}
+use Rattle.rules.proofs.Accepted.{MayInsert, insert-call-cases}
+use Rattle.buffers.specs.Format.{linksIn, counterIn, countOf, markOf, markIn, many, bookOf, lentOf, bufferOf, buffersOf}
+use Rattle.buffers.specs.Slots.{capacityOf}
+use Rattle.buffers.specs.Post.{Inside, Has, Now, Kept, Word}
+use Rattle.buffers.proofs.ArrayLaws.{has, each-at, buffer-length, buffers-at, only-word, only-kept, kept-links}
+use Rattle.mergers.specs.Fills.{MarksRight}
+use Rattle.mergers.proofs.FillLaws.{marks-less}
+use Rattle.paths.specs.Placing.{Placing}
+use Rattle.paths.proofs.SlotsLaws.{placing}
+use Rattle.queue.specs.Heads.{CanTake}
+use Rattle.queue.specs.Calls.{Called}
+use Rattle.queue.specs.Room.{CanMove, CanSweep, CanPack, CanMakeRoom, MadeRoom, WorkKept}
+use Rattle.queue.proofs.ReadyLaws.{insertion-has, insertion-is}
+use Rattle.queue.proofs.BookLaws.{shaped, sound-after}
+use Rattle.queue.proofs.CallLaws.{done, not-done, done-is, accepted-is, refusal-called, accepted-called, inside, can-take, kept-now, same-queue}
+
+-- ---- the three cases of making room
+
+abbrev nothing-made : Queue → Inserted
+nothing-made q = record { queue = q; steps = 0; packed = false; fits = true }
+
+abbrev goal : Queue → ℕ
+goal q = lowest 1 (q .counters)
+
+room-when : (q : Queue) (a b : Bool) → eqb (length (insertion (q .buffers))) 8 ≡ a → leb (goal q) (q .links) ≡ b
+    → makeRoom q ≡ elim a [ false ↦ nothing-made q | true ↦ elim b [ true ↦ swept (goal q) q | false ↦ packed q ] ]
+unfolding makeRoom
+room-when q a b e f = λ x. elim (e x) [ false ↦ nothing-made q | true ↦ elim (f x) [ true ↦ swept (goal q) q | false ↦ packed q ] ]
+
+unlike-eqb : (m n : ℕ) → m ≢ n → eqb m n ≡ false
+unlike-eqb m n differ = go (eqb m n) refl
+  where
+    go : (b : Bool) → eqb m n ≡ b → b ≡ false
+    go true e = absurd (differ (eqb-true m n e))
+    go false e = refl
+
+room-none : (q : Queue) → length (insertion (q .buffers)) ≢ 8 → makeRoom q ≡ nothing-made q
+room-none q differ = room-when q false (leb (goal q) (q .links)) (unlike-eqb (length (insertion (q .buffers))) 8 differ) refl
+
+room-swept : (q : Queue) → length (insertion (q .buffers)) ≡ 8 → goal q ≤ q .links → makeRoom q ≡ swept (goal q) q
+room-swept q eight there = room-when q true true (eq-eqb (length (insertion (q .buffers))) 8 eight) (le-leb (goal q) (q .links) there)
+
+room-packed : (q : Queue) → length (insertion (q .buffers)) ≡ 8 → q .links < goal q → makeRoom q ≡ packed q
+room-packed q eight past = room-when q true false (eq-eqb (length (insertion (q .buffers))) 8 eight) (lt-leb (goal q) (q .links) past)
+
+-- ---- room over the array
+
+module _ (ws work : List ℕ) (h : CanMakeRoom ws work) where
+  abbrev q : Queue
+  q = queueOf (lentOf ws)
+
+  array : Inside ws
+  array = h .moves .can .array
+
+  I-has : Has ws 0
+  I-has = insertion-has ws (linksIn ws) (h .moves .can)
+
+  pub counts-I : Has ws 0
+  counts-I = I-has
+
+  I-long : length (insertion (q .buffers)) ≡ length (bufferOf ws 0)
+  unfolding queueOf lentOf
+  I-long = ap length (insertion-is ws (linksIn ws) (h .moves .can))
+
+  pub some-words : 0 < length ws
+  some-words = omega (arith, I-has .slots, I-has .behind)
+
+  pub room-there : (n : ℕ) → n ≡ length (bufferOf ws 0) → n < 8 → MadeRoom ws ws (makeRoom q) work work 0
+  room-there n n-is less =
+      rw (room-none q (omega (arith, I-long)))
+      record {
+        array = array;
+        links = refl;
+        queue-is = refl;
+        made = refl;
+        marks = h .moves .can .marks;
+        mark-I = h .mark-I;
+        long = refl;
+        past = λ p far. refl;
+        work-long = refl;
+        work-past = λ p far. refl;
+      }
+
+  pub packed-not : (n : ℕ) → n ≡ length (bufferOf ws 0) → n < 8 → false ≡ makeRoom q .packed
+  packed-not n n-is less = rw (room-none q (omega (arith, I-long)))
+
+  I-full : (n : ℕ) → n ≡ length (bufferOf ws 0) → 8 ≤ n → length (insertion (q .buffers)) ≡ 8
+  unfolding capacityOf
+  I-full n n-is eight = omega (arith, I-long, buffer-length ws 0 I-has, I-has .fits)
+
+  module _ (n : ℕ) (n-is : n ≡ length (bufferOf ws 0)) (eight : 8 ≤ n) (l : ℕ) (l-is : l ≡ linksIn ws) (i : ℕ) (i-is : i ≡ lowest 1 (bookOf ws .counters)) where
+    pub can-sweep : i ≤ l → CanSweep ws i work
+    can-sweep there = rw i-is (h .sweeps (omega (arith, i-is, l-is)))
+
+    pub swept-room : i ≤ l → (ws′ work′ : List ℕ) (steps : ℕ) → MadeRoom ws ws′ (swept i q) work work′ steps → MadeRoom ws ws′ (makeRoom q) work work′ steps
+    unfolding queueOf lentOf
+    swept-room there ws′ work′ steps z =
+        subst (λ y. MadeRoom ws ws′ y work work′ steps) (ap (λ m. swept m q) i-is ∙ sym (room-swept q (I-full n n-is eight) (omega (arith, i-is, l-is)))) z
+
+    pub swept-packs-not : i ≤ l → false ≡ makeRoom q .packed
+    unfolding queueOf lentOf swept
+    swept-packs-not there = sym (ap (λ (y : Inserted). y .packed) (room-swept q (I-full n n-is eight) (omega (arith, i-is, l-is))))
+
+    pub can-pack : CanPack ws l work
+    can-pack = record { moves = h .moves; of = sym l-is }
+
+    pub packed-room : l < i → (ws′ work′ : List ℕ) (steps : ℕ) → MadeRoom ws ws′ (packed q) work work′ steps → MadeRoom ws ws′ (makeRoom q) work work′ steps
+    unfolding queueOf lentOf
+    packed-room past ws′ work′ steps z = subst (λ y. MadeRoom ws ws′ y work work′ steps) (sym (room-packed q (I-full n n-is eight) (omega (arith, i-is, l-is)))) z
+
+    pub packed-packs : l < i → true ≡ makeRoom q .packed
+    unfolding queueOf lentOf packed
+    packed-packs past = sym (ap (λ (y : Inserted). y .packed) (room-packed q (I-full n n-is eight) (omega (arith, i-is, l-is))))
+
+-- ---- where the book rules hold but for I, a sweep may be made to the lowest link
+
+module _ (ws work : List ℕ) (moves : CanMove ws work) (kept : rules.Kept 8 (queueOf (lentOf ws))) where
+  abbrev p : Queue
+  p = queueOf (lentOf ws)
+
+  abbrev i : ℕ
+  i = lowest 1 (queueOf (lentOf ws) .counters)
+
+  low : 1 ≤ i
+  low = lowest-is 1 (p .counters) .low
+
+  module _ (there : i ≤ linksIn ws) where
+    shape : Shaped p
+    shape = shaped ws (moves .can .array)
+
+    there-q : i ≤ p .links
+    unfolding queueOf lentOf bookOf
+    there-q = there
+
+    read : counter p i ≡ counterIn ws i
+    unfolding counter queueOf lentOf bookOf
+    read = let e : 1 + (i - 1) ≡ i = omega (arith, low) in each-at (counterIn ws) 1 (linksIn ws) (i - 1) 0 (omega (arith, low)) ∙ ap (counterIn ws) e
+
+    unspent : counter p i ≤ k i
+    unfolding counter
+    unspent = lowest-is 1 (p .counters) .has (i - 1) (omega (arith, low)) (omega (arith, low, there-q, shape .counters))
+
+    store-below : numberOfS i (counter p i) < many ws
+    store-below = tree-range (linksIn ws) (s-stands (linksIn ws) i (counter p i) low there (kept .each i low there-q .counter-low) unspent) .1
+
+    store-empty : bufferOf ws (numberOfS i (counterIn ws i)) ≡ []
+    unfolding queueOf lentOf
+    store-empty = rw read at (sym (buffers-at ws (numberOfS i (counter p i)) store-below) ∙ kept .each i low there-q .unused (counter p i) (omega arith) unspent)
+
+    pub lowest-sweeps : CanSweep ws i work
+    lowest-sweeps =
+        record {
+          moves = moves;
+          low = low;
+          there = there;
+          counted = rw read at (kept .each i low there-q .counter-low);
+          unspent = rw read at unspent;
+          empty = store-empty;
+          fits = truth (swept i p .fits) (swept-fits 8 p shape kept (kept .few) i low there-q unspent);
+        }
+
+-- ---- the insert
+
+module _ (ws work : List ℕ) (entry : ℕ) where
+  abbrev before : Queue
+  before = queueOf (lentOf ws)
+
+  abbrev checks : Answer
+  checks = firstFailing (insertChecks (length work) entry (lentOf ws))
+
+  abbrev accepted : Outcome
+  accepted = record { answer = Done; word = 0; steps = inserted entry (queueOf (lentOf ws)) .steps; packed = inserted entry (queueOf (lentOf ws)) .packed; queue = inserted entry (queueOf (lentOf ws)) .queue }
+
+  insert-is : isDone checks ≡ true → insert (length work) entry (lentOf ws) ≡ accepted
+  unfolding insert
+  insert-is e = accepted-is checks before accepted e
+
+  pub insert-refused : (x : Answer) → x ≡ checks → numberOf x ≢ 0 → Called ws ws (insert (length work) entry (lentOf ws)) x 0 0 false
+  unfolding insert
+  insert-refused x x-is differ = refusal-called ws checks accepted x x-is (not-done x differ)
+
+  pub work-refused : (x : Answer) → WorkKept (linksIn ws) x work work
+  work-refused x = record { long = refl; past = λ p far. refl; refused = λ e. refl }
+
+  may-insert : isDone checks ≡ true → MayInsert (length work) entry (lentOf ws)
+  unfolding refused
+  may-insert e =
+      insert-call-cases (lentOf ws) (λ o. T (isDone (o .answer)) → MayInsert (length work) entry (lentOf ws)) (λ answer r t. absurd (T-not (isDone answer) (r .not-done) t)) (length work) entry (λ m t. m)
+      (subst T (sym (ap (λ (o : Outcome). isDone (o .answer)) (insert-is e) ∙ done-is ws)) tt)
+
+  module _ (x : Answer) (x-is : x ≡ checks) (none-fails : numberOf x ≡ 0) where
+    all-hold : isDone checks ≡ true
+    all-hold = ap isDone (sym x-is) ∙ done x none-fails
+
+    may : MayInsert (length work) entry (lentOf ws)
+    may = may-insert all-hold
+
+    array-in : Inside ws
+    array-in = inside ws (may .long) (may .holds)
+
+    can : CanTake ws (linksIn ws)
+    can = can-take ws (may .long) (may .holds)
+
+    kept-seven : rules.Kept 7 before
+    kept-seven = kept-now ws (may .long) (may .holds)
+
+    of-I : Has ws 0
+    of-I = insertion-has ws (linksIn ws) can
+
+    pub places : Placing ws
+    unfolding queueOf lentOf
+    places = placing ws array-in (omega (arith, kept-seven .few, ap length (insertion-is ws (linksIn ws) can), buffer-length ws 0 of-I))
+
+    module _ (ws₁ : List ℕ) (n : Now ws ws₁ 0 (placed wholeWord entry (bufferOf ws 0))) (w : Word ws₁ 0 0 0) where
+      kept₁ : Kept ws ws₁
+      kept₁ = only-kept ws ws₁ 0 of-I (n .only)
+
+      links₁ : linksIn ws₁ ≡ linksIn ws
+      links₁ = kept-links kept₁
+
+      queue₁ : queueOf (lentOf ws₁) ≡ entered entry before
+      unfolding entered keyOf queueOf lentOf bookOf withBuffers
+      queue₁ =
+          same-queue ws ws₁ (set (buffersOf ws) 0 (placed wholeWord entry (bufferOf ws 0))) array-in kept₁ (n .state)
+          ∙ ap (λ es. withBuffers (queueOf (lentOf ws)) (set (buffersOf ws) 0 (placed wholeWord entry es))) (sym (insertion-is ws (linksIn ws) can))
+
+      kept-eight : rules.Kept 8 (queueOf (lentOf ws₁))
+      kept-eight = subst (rules.Kept 8) (sym queue₁) (now-kept entry before (shaped ws array-in) kept-seven (may .not-full))
+
+      other : {m : ℕ} → Stands m (linksFrom 1 (linksIn ws)) → (0 < m) × (m < many ws)
+      unfolding bufferCount
+      other st = let r = links-range 1 (linksIn ws) (omega arith) st in let e : 1 + linksIn ws ≡ suc (linksIn ws) = omega arith in (omega (arith, r .0, first-one), rw e at (r .1))
+
+      can₁ : CanTake ws₁ (linksIn ws₁)
+      can₁ =
+          record {
+            array = n .array;
+            links = omega arith;
+            marks = rw links₁ (
+                marks-less (linksFrom 1 (linksIn ws)) ws ws₁ (λ m s. ap markIn (only-word ws ws₁ 0 of-I (n .only) m (other s .1) (omega (arith, other s .0))))
+                (λ m s. rw (n .state, getD-set-other (buffersOf ws) 0 m (placed wholeWord entry (bufferOf ws 0)) [] (omega (arith, other s .0))) (omega arith)) (can .marks)
+                );
+          }
+
+      moves₁ : CanMove ws₁ work
+      unfolding held queueOf lentOf bookOf
+      moves₁ =
+          record {
+            can = can₁;
+            few = omega (arith, held-split (queueOf (lentOf ws₁)), kept-eight .at-most);
+            room = rw links₁ (may .room);
+          }
+
+      pub makes-room : CanMakeRoom ws₁ work
+      unfolding queueOf lentOf
+      makes-room =
+          record {
+            moves = moves₁;
+            mark-I = λ e. absurd (omega (arith, w .mark));
+            sweeps = λ there. lowest-sweeps ws₁ work moves₁ kept-eight there;
+          }
+
+      module _ (ws₂ work₂ : List ℕ) (steps : ℕ) (packs : Bool) (z : MadeRoom ws₁ ws₂ (makeRoom (queueOf (lentOf ws₁))) work work₂ steps) (packs-is : packs ≡ makeRoom (queueOf (lentOf ws₁)) .packed) where
+        outcome-is : makeRoom (queueOf (lentOf ws₁)) ≡ inserted entry before
+        unfolding inserted
+        outcome-is = ap makeRoom queue₁
+
+        queue₂ : queueOf (lentOf ws₂) ≡ inserted entry before .queue
+        queue₂ = z .queue-is ∙ ap (λ (y : Inserted). y .queue) outcome-is
+
+        sound₂ : sound (bookOf ws₂) ≡ true
+        unfolding treeOf
+        sound₂ = sound-after ws₂ (z .array) (subst (rules.Kept 7) (sym queue₂) (inserted-kept entry before (shaped ws array-in) kept-seven (may .not-full))) (z .marks) (z .mark-I)
+
+        pub insert-called : Called ws ws₂ (insert (length work) entry (lentOf ws)) Done 0 steps packs
+        insert-called =
+            let o = insert-is all-hold in
+            accepted-called ws ws₂ (insert (length work) entry (lentOf ws)) 0 steps packs
+            (ap (λ (r : Outcome). r .answer) o)
+            (sym (ap (λ (r : Outcome). r .word) o))
+            (z .made ∙ ap (λ (y : Inserted). y .steps) outcome-is ∙ sym (ap (λ (r : Outcome). r .steps) o))
+            (packs-is ∙ ap (λ (y : Inserted). y .packed) outcome-is ∙ sym (ap (λ (r : Outcome). r .packed) o))
+            (queue₂ ∙ sym (ap (λ (r : Outcome). r .queue) o))
+            sound₂
+            (z .long ∙ kept₁ .long)
+            (λ p far. let same : words (linksIn ws₂) ≤ p = far in z .past p (rw (z .links) at far) ∙ kept₁ .past p (rw links₁ at (rw (z .links) at far)))
+
+        pub work-kept : WorkKept (linksIn ws) Done work work₂
+        unfolding isDone
+        work-kept = record { long = z .work-long; past = λ p far. z .work-past p (rw links₁ far); refused = λ e. absurd (subst T e tt) }
