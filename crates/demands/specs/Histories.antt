@@ -1,5 +1,5 @@
 -- Histories of calls on one array, and what has happened since the last accepted setup.
-use Prim.Native.Nat.{ℕ, zero, suc, _+_, _<_}
+use Prim.Native.Nat.{ℕ, _+_, _≤_, _<_}
 use mathlib.Core.Path.{_≡_}
 use mathlib.Core.Bool.{Bool, true, false}
 use mathlib.Core.List.{List, [], _∷_, _++_}
@@ -7,6 +7,7 @@ use lib.Dec.{eqb}
 use lib.ListN.{length}
 use Rattle.rules.specs.declared.Answer.{Answer}
 use Rattle.rules.specs.Answers.{isDone}
+use Rattle.rules.specs.Entries.{wholeWord}
 use Rattle.rules.specs.Tests.{_and_}
 use Rattle.rules.specs.Examples.{Order, setupOf, insertOf, takeIt, lookAt, heldNow, auditIt, call}
 use Rattle.buffers.specs.Format.{lentOf}
@@ -132,3 +133,8 @@ times v (e ∷ es) = once (eqb v e) + times v es
 -- "put in and still held": put in more often than handed out
 abbrev pub StillHeld : ℕ → List Call → Type 0
 StillHeld v cs = times v (takenOut cs) < times v (putIn cs)
+
+-- "the smallest entry put in and still held", by "the whole word as a number"
+pub record Smallest (e : ℕ) (cs : List Call) : Type 0 where
+  pub held : StillHeld e cs
+  pub least : (v : ℕ) → StillHeld v cs → wholeWord e ≤ wholeWord v
