@@ -3,3 +3,4 @@ pub mod HistoryLaws
 pub mod BoundLaws
 pub mod SmallestLaws
 pub mod Demands
+pub mod ExactLaws

@@ -1,2 +1,3 @@
 pub mod Histories
 pub mod Bounds
+pub mod Exact
