@@ -157,3 +157,165 @@ module _ (a : Lent) (checks : List Check) where
       (λ e one four. absurd (subst T (sym e) tt))
       (λ e none. no-number order other (leb-true 296 (a .length) long) none)))
       (λ long. short order other (leb-false 296 (a .length) long))
+
+-- ---- each call has an answer of the table
+
+module _ (work : ℕ) (a : Lent) where
+  abbrev Says : Order → Answer → Type 0
+  Says order = Answers work a order
+
+  abbrev H : ℕ
+  H = most (a .book .links)
+
+  abbrev count : ℕ
+  count = held (queueOf a)
+
+  says-setup : (l : ℕ) → Says (setupOf l) (firstFailing (checksOf work (setupOf l) a))
+  unfolding checksOf firstFailing
+  says-setup l =
+      let P = Says (setupOf l) in
+      let last = (leb (words l) (a .length) else ArrayShort) ∷ [] in
+      by-check NoSuchLinks last P (isLinkNumber l)
+      (λ number. by-number l (P (firstFailing last)) true number
+      (λ e one four. by-check ArrayShort [] P (leb (words l) (a .length))
+      (λ own. setup-done l one four (leb-true (words l) (a .length) own))
+      (λ own. setup-short l one four (leb-false (words l) (a .length) own)))
+      (λ e none. absurd (subst T e tt)))
+      (λ number. by-number l (P NoSuchLinks) false number (λ e one four. absurd (subst T (sym e) tt)) (λ e none. no-links l none))
+
+  says-insert : (entry : ℕ) → Says (insertOf entry) (firstFailing (checksOf work (insertOf entry) a))
+  unfolding checksOf firstFailing
+  says-insert entry =
+      let order = insertOf entry in
+      let P = Says order in
+      let place = inserted entry (queueOf a) .fits in
+      let c₅ = (place else NoPlace) ∷ [] in
+      let c₄ = (ltb count H else Full) ∷ c₅ in
+      let c₃ = (leb (door entry) 2 else DoorAbove) ∷ c₄ in
+      let c₂ = (sound (a .book) else BookBroken) ∷ c₃ in
+      by-array a ((leb H work else WorkShort) ∷ c₂) work order refl (λ enough.
+      by-check WorkShort c₂ P (leb H work)
+      (λ w. let room = leb-true H work w in
+      by-check BookBroken c₃ P (sound (a .book))
+      (λ holds. let so : Sound work order a = record { enough = enough; work-enough = room; holds = holds } in
+      by-check DoorAbove c₄ P (leb (door entry) 2)
+      (λ d. let low = leb-true (door entry) 2 d in
+      by-check Full c₅ P (ltb count H)
+      (λ f. let less = ltb-true count H f in
+      by-check NoPlace [] P place (λ fits. insert-done entry so low less fits) (λ fits. no-place entry so low less fits))
+      (λ f. full entry so low (ltb-false count H f)))
+      (λ d. door-above entry so (leb-false (door entry) 2 d)))
+      (λ holds. broken order refl enough room holds))
+      (λ w. work-short entry enough (leb-false H work w)))
+
+  says-take : Says takeIt (firstFailing (checksOf work takeIt a))
+  unfolding checksOf firstFailing
+  says-take =
+      let last = (ltb 0 count else NoneHeld) ∷ [] in
+      by-array a ((sound (a .book) else BookBroken) ∷ last) work takeIt refl (λ enough.
+      by-check BookBroken last (Says takeIt) (sound (a .book))
+      (λ holds. let so : Sound work takeIt a = record { enough = enough; work-enough = tt; holds = holds } in
+      by-check NoneHeld [] (Says takeIt) (ltb 0 count)
+      (λ some. take-done so (ltb-true 0 count some))
+      (λ some. none-to-take so (omega (arith, ltb-false 0 count some))))
+      (λ holds. broken takeIt refl enough tt holds))
+
+  says-look : Says lookAt (firstFailing (checksOf work lookAt a))
+  unfolding checksOf firstFailing
+  says-look =
+      let last = (ltb 0 count else NoneHeld) ∷ [] in
+      by-array a ((sound (a .book) else BookBroken) ∷ last) work lookAt refl (λ enough.
+      by-check BookBroken last (Says lookAt) (sound (a .book))
+      (λ holds. let so : Sound work lookAt a = record { enough = enough; work-enough = tt; holds = holds } in
+      by-check NoneHeld [] (Says lookAt) (ltb 0 count)
+      (λ some. look-done so (ltb-true 0 count some))
+      (λ some. none-to-see so (omega (arith, ltb-false 0 count some))))
+      (λ holds. broken lookAt refl enough tt holds))
+
+  says-held : Says heldNow (firstFailing (checksOf work heldNow a))
+  unfolding checksOf firstFailing
+  says-held =
+      by-array a ((sound (a .book) else BookBroken) ∷ []) work heldNow refl (λ enough.
+      by-check BookBroken [] (Says heldNow) (sound (a .book))
+      (λ holds. held-done (record { enough = enough; work-enough = tt; holds = holds }))
+      (λ holds. broken heldNow refl enough tt holds))
+
+  says-audit : Says auditIt (firstFailing (checksOf work auditIt a))
+  unfolding checksOf firstFailing
+  says-audit =
+      let order = inOrder (keyOf (queueOf a)) (treeOf (a .book .links)) (a .buffers) in
+      let last = (order else OrderBroken) ∷ [] in
+      by-array a ((sound (a .book) else BookBroken) ∷ last) work auditIt refl (λ enough.
+      by-check BookBroken last (Says auditIt) (sound (a .book))
+      (λ holds. let so : Sound work auditIt a = record { enough = enough; work-enough = tt; holds = holds } in
+      by-check OrderBroken [] (Says auditIt) order (λ e. audit-done so e) (λ e. disordered so e))
+      (λ holds. broken auditIt refl enough tt holds))
+
+  says : (order : Order) → Says order (firstFailing (checksOf work order a))
+  says (setupOf l) = says-setup l
+  says (insertOf entry) = says-insert entry
+  says takeIt = says-take
+  says lookAt = says-look
+  says heldNow = says-held
+  says auditIt = says-audit
+
+  -- ---- and no other
+
+  -- the checks behind those of the array
+  rest : Order → List Check
+  rest (setupOf l) = []
+  rest (insertOf entry) =
+      (leb H work else WorkShort) ∷ (sound (a .book) else BookBroken) ∷ (leb (door entry) 2 else DoorAbove) ∷ (ltb count H else Full) ∷ (inserted entry (queueOf a) .fits else NoPlace) ∷ []
+  rest takeIt = (sound (a .book) else BookBroken) ∷ (ltb 0 count else NoneHeld) ∷ []
+  rest lookAt = (sound (a .book) else BookBroken) ∷ (ltb 0 count else NoneHeld) ∷ []
+  rest heldNow = (sound (a .book) else BookBroken) ∷ []
+  rest auditIt = (sound (a .book) else BookBroken) ∷ (inOrder (keyOf (queueOf a)) (treeOf (a .book .links)) (a .buffers) else OrderBroken) ∷ []
+
+  splits : (order : Order) → isSetup order ≡ false → checksOf work order a ≡ arrayChecks a (rest order)
+  unfolding checksOf rest
+  splits (setupOf l) e = absurd (subst T e tt)
+  splits (insertOf entry) e = refl
+  splits takeIt e = refl
+  splits lookAt e = refl
+  splits heldNow e = refl
+  splits auditIt e = refl
+
+  broken-rest : (order : Order) → isSetup order ≡ false → WorkEnough work order a → sound (a .book) ≡ false → firstFailing (rest order) ≡ BookBroken
+  unfolding rest firstFailing
+  broken-rest (setupOf l) e w s = absurd (subst T e tt)
+  broken-rest (insertOf entry) e w s = rw (le-leb H work w, s) refl
+  broken-rest takeIt e w s = rw s refl
+  broken-rest lookAt e w s = rw s refl
+  broken-rest heldNow e w s = rw s refl
+  broken-rest auditIt e w s = rw s refl
+
+  first-is : (order : Order) → isSetup order ≡ false → Enough a → firstFailing (checksOf work order a) ≡ firstFailing (rest order)
+  first-is order other e = ap firstFailing (splits order other) ∙ array-passes a (rest order) e
+
+  only : {order : Order} {r : Answer} → Says order r → firstFailing (checksOf work order a) ≡ r
+  unfolding checksOf rest firstFailing
+  only (no-links l none) = rw (number-fails l none) refl
+  only (setup-short l one four less) = rw (number-holds l one four, lt-leb (words l) (a .length) less) refl
+  only (short order other less) = ap firstFailing (splits order other) ∙ array-short a (rest order) less
+  only (short-for-its-links order other long one four less) = ap firstFailing (splits order other) ∙ array-short-for a (rest order) long one four less
+  only (work-short entry e less) = first-is (insertOf entry) refl e ∙ rw (lt-leb H work less) refl
+  only (no-number order other long none) = ap firstFailing (splits order other) ∙ array-no-number a (rest order) long none
+  only (broken order other e w s) = first-is order other e ∙ broken-rest order other w s
+  only (full entry so d f) = first-is (insertOf entry) refl (so .enough) ∙ rw (le-leb H work (so .work-enough), so .holds, le-leb (door entry) 2 d, le-ltb count H f) refl
+  only (none-to-take so none) = first-is takeIt refl (so .enough) ∙ rw (so .holds, none) refl
+  only (none-to-see so none) = first-is lookAt refl (so .enough) ∙ rw (so .holds, none) refl
+  only (door-above entry so d) = first-is (insertOf entry) refl (so .enough) ∙ rw (le-leb H work (so .work-enough), so .holds, lt-leb (door entry) 2 d) refl
+  only (no-place entry so d f p) =
+      first-is (insertOf entry) refl (so .enough) ∙ rw (le-leb H work (so .work-enough), so .holds, le-leb (door entry) 2 d, lt-ltb count H f, p) refl
+  only (disordered so e) = first-is auditIt refl (so .enough) ∙ rw (so .holds, e) refl
+  only (setup-done l one four own) = rw (number-holds l one four, le-leb (words l) (a .length) own) refl
+  only (insert-done entry so d f p) =
+      first-is (insertOf entry) refl (so .enough) ∙ rw (le-leb H work (so .work-enough), so .holds, le-leb (door entry) 2 d, lt-ltb count H f, p) refl
+  only (take-done so some) = first-is takeIt refl (so .enough) ∙ rw (so .holds, lt-ltb 0 count some) refl
+  only (look-done so some) = first-is lookAt refl (so .enough) ∙ rw (so .holds, lt-ltb 0 count some) refl
+  only (held-done so) = first-is heldNow refl (so .enough) ∙ rw (so .holds) refl
+  only (audit-done so e) = first-is auditIt refl (so .enough) ∙ rw (so .holds, e) refl
+
+  -- the answer stands in the table, and what stands in the table is the answer
+  pub exactly : (order : Order) (r : Answer) → (call work order a .answer ≡ r → Answers work a order r) × (Answers work a order r → call work order a .answer ≡ r)
+  exactly order r = (λ e. subst (Answers work a order) (sym (answer-is work order a) ∙ e) (says order), λ s. answer-is work order a ∙ only s)
