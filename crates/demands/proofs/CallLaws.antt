@@ -189,3 +189,7 @@ unfolding fresh insertion
 fresh-weight g links =
     let bs = fresh links .buffers in
     omega (arith, ap (sumOf g) (fresh-empty links 0), none-weighs (λ d. g) (treeOf links) 0 bs (fresh-held links (treeOf links)))
+
+-- the word of an accepted held is the number held
+pub held-word : (a : Lent) → T (isDone (heldCall a .answer)) → heldCall a .word ≡ held (queueOf a)
+held-word a = held-cases a (λ o. T (isDone (o .answer)) → o .word ≡ held (queueOf a)) (λ answer r d. absurd (refused-not answer (queueOf a) r d)) (λ long holds d. refl)

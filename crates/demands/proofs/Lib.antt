@@ -4,3 +4,4 @@ pub mod BoundLaws
 pub mod SmallestLaws
 pub mod Demands
 pub mod ExactLaws
+pub mod AnswerLaws
