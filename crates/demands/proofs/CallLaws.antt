@@ -193,3 +193,36 @@ fresh-weight g links =
 -- the word of an accepted held is the number held
 pub held-word : (a : Lent) → T (isDone (heldCall a .answer)) → heldCall a .word ≡ held (queueOf a)
 held-word a = held-cases a (λ o. T (isDone (o .answer)) → o .word ≡ held (queueOf a)) (λ answer r d. absurd (refused-not answer (queueOf a) r d)) (λ long holds d. refl)
+
+-- ---- what a call does not report
+
+module _ (a : Lent) where
+  abbrev Unpacked : Outcome → Type 0
+  Unpacked o = o .packed ≡ false
+
+  refused-unpacked : (answer : Answer) → Refusal answer → Unpacked (refused answer (queueOf a))
+  unfolding refused
+  refused-unpacked answer r = refl
+
+  refused-steps : (answer : Answer) → Refusal answer → refused answer (queueOf a) .steps ≡ 0
+  unfolding refused
+  refused-steps answer r = refl
+
+  -- a setup makes no steps, and only an insert packs
+  pub setup-steps : (links : ℕ) → setup links a .steps ≡ 0
+  setup-steps links = setup-cases links a (λ o. o .steps ≡ 0) (λ number long. refl) refused-steps
+
+  pub setup-unpacked : (links : ℕ) → setup links a .packed ≡ false
+  setup-unpacked links = setup-cases links a Unpacked (λ number long. refl) refused-unpacked
+
+  pub take-unpacked : take a .packed ≡ false
+  take-unpacked = take-cases a Unpacked refused-unpacked (λ may. refl)
+
+  pub look-unpacked : look a .packed ≡ false
+  look-unpacked = look-cases a Unpacked refused-unpacked (λ may. refl)
+
+  pub held-unpacked : heldCall a .packed ≡ false
+  held-unpacked = held-cases a Unpacked refused-unpacked (λ long holds. refl)
+
+  pub audit-unpacked : audit a .packed ≡ false
+  audit-unpacked = audit-cases a Unpacked refused-unpacked (λ long holds order. refl)

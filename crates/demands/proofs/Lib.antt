@@ -5,3 +5,4 @@ pub mod SmallestLaws
 pub mod Demands
 pub mod ExactLaws
 pub mod AnswerLaws
+pub mod TallyLaws
