@@ -124,6 +124,14 @@ module _ {cs : List Call} {ws : List ℕ} (h : History cs ws) where
   unfolding queueOf lentOf bookOf
   in-order = truth (inOrder (keyOf q) (treeOf (linksIn ws)) (q .buffers)) (since-ordered (links cs) (stands h .number) (stands h .goes))
 
+  -- as many out as in: each entry exactly as often
+  pub all-out : takes (since cs) ≡ inserts (since cs) → (v : ℕ) → times v (takenOut (since cs)) ≡ times v (putIn (since cs))
+  all-out e v = empty (omega (arith, number-held h)) v
+
+  -- never more than H
+  pub at-most : inserts (since cs) ≤ takes (since cs) + most (links cs)
+  at-most = omega (arith, number-held h, fine .kept .at-most, held-split q, ap most (fine .same))
+
   -- the next call
   module _ (ws′ : List ℕ) (c : Call) (made : Made ws c ws′) where
     -- its answer is what the table says

@@ -6,3 +6,5 @@ pub mod Demands
 pub mod ExactLaws
 pub mod AnswerLaws
 pub mod TallyLaws
+pub mod FrameLaws
+pub mod MadeLaws

@@ -15,7 +15,7 @@ use Rattle.rules.specs.Examples.{Order, takeIt, lookAt, call}
 use Rattle.rules.proofs.Weight.{sumOf, sumOf-ones, oneIf, timesOf}
 use Rattle.rules.proofs.History.{since-fine, since-ordered}
 use Rattle.buffers.specs.Format.{lentOf}
-use Rattle.demands.specs.Histories.{Call, Made, accepted, isSetup, begins, History, first, next, since, links, putIn, takenOut, once, times, StillHeld, Smallest}
+use Rattle.demands.specs.Histories.{Call, Made, accepted, isSetup, begins, History, first, next, since, links, brought, handed, ifDone, putIn, takenOut, once, times, StillHeld, Smallest}
 use Rattle.demands.proofs.CallLaws.{weightOf, held-is, timesHeld, LeastHeld, least-taken, least-seen}
 use Rattle.demands.proofs.HistoryLaws.{Stands, stands}
 
@@ -112,3 +112,32 @@ module _ {cs : List Call} {ws : List ℕ} (h : History cs ws) where
 -- an order that is no setup begins nothing
 pub no-setup : (c : Call) (order : Order) → c .order ≡ order → isSetup order ≡ false → begins c ≡ false
 no-setup c order is other = ap (λ order. isSetup order and accepted c) is ∙ ap (λ b. b and accepted c) other
+
+-- ---- a look, and the take behind it
+
+-- there is but one smallest entry
+one-smallest : (e f : ℕ) (cs ds : List Call) → putIn cs ≡ putIn ds → takenOut cs ≡ takenOut ds → Smallest e cs → Smallest f ds → e ≡ f
+unfolding wholeWord
+one-smallest e f cs ds i o one two =
+    let le : e ≤ f = one .least f (rw (i, o) (two .held)) in
+    let ge : f ≤ e = two .least e (rw (← i, ← o) (one .held)) in
+    omega arith
+
+-- a call that brings and hands out nothing adds nothing to either
+none-either : (b : Bool) → ifDone b [] ≡ []
+none-either true = refl
+none-either false = refl
+
+since-next : (c : Call) (cs : List Call) → begins c ≡ false → since (c ∷ cs) ≡ c ∷ since cs
+since-next c cs e = subst (λ b. elim b as (λ b. List Call) [ true ↦ [] | false ↦ c ∷ since cs ] ≡ c ∷ since cs) (sym e) refl
+
+pub look-adds-none : (c : Call) (cs : List Call) → c .order ≡ lookAt → (putIn (since (c ∷ cs)) ≡ putIn (since cs)) × (takenOut (since (c ∷ cs)) ≡ takenOut (since cs))
+look-adds-none c cs is =
+    let e = since-next c cs (no-setup c lookAt is refl) in (
+      ap putIn e ∙ ap (λ order. ifDone (accepted c) (brought order) ++ putIn (since cs)) is ∙ ap (λ es. es ++ putIn (since cs)) (none-either (accepted c)),
+      ap takenOut e ∙ ap (λ order. ifDone (accepted c) (handed order (c .word)) ++ takenOut (since cs)) is ∙ ap (λ es. es ++ takenOut (since cs)) (none-either (accepted c)),
+    )
+
+-- the take hands out what the look has shown
+pub taken-as-seen : (c d : Call) (cs : List Call) → d .order ≡ lookAt → Smallest (c .word) (since (d ∷ cs)) → Smallest (d .word) (since cs) → c .word ≡ d .word
+taken-as-seen c d cs is one two = let same = look-adds-none d cs is in one-smallest (c .word) (d .word) (since (d ∷ cs)) (since cs) (same .0) (same .1) one two
