@@ -2,9 +2,9 @@ pub mod CallLaws
 pub mod HistoryLaws
 pub mod BoundLaws
 pub mod SmallestLaws
-pub mod Demands
 pub mod ExactLaws
 pub mod AnswerLaws
 pub mod TallyLaws
 pub mod FrameLaws
 pub mod MadeLaws
+pub mod Demands
