@@ -1,6 +1,7 @@
 -- What the calls of a history answer: nothing that can be done is refused.
 use Prim.Native.Nat.{ℕ, zero, suc, _+_, _≤_, _<_}
 use mathlib.Core.Path.{_≡_, refl, sym, ap, _∙_, subst}
+use mathlib.Core.Logic.{_⊎_, inl, inr}
 use mathlib.Core.Bool.{Bool, true, false}
 use mathlib.Core.List.{List, [], _∷_}
 use native.Mathlib.Omega.{arith}
@@ -196,3 +197,16 @@ module _ {cs : List Call} {ws : List ℕ} (h : History cs ws) where
         let so = book-sound (c .work) (insertOf entry) room′ in
         let all′ : most (linksIn ws) ≤ held q = omega (arith, ap most same-links, number-held h) in
         told (insertOf entry) Full is (full entry so low all′)
+
+    -- why an insert is refused
+    pub refused-insert : (entry : ℕ) → c .order ≡ insertOf entry → accepted c ≡ false
+        → (c .work < most (links cs)) ⊎ (2 < door entry) ⊎ (inserts (since cs) ≡ takes (since cs) + most (links cs))
+    unfolding isDone
+    refused-insert entry is refusal = go (decLt (c .work) (most (links cs))) (decLt 2 (door entry)) (decLt (inserts (since cs)) (takes (since cs) + most (links cs)))
+      where
+        go : Dec (c .work < most (links cs)) → Dec (2 < door entry) → Dec (inserts (since cs) < takes (since cs) + most (links cs))
+            → (c .work < most (links cs)) ⊎ (2 < door entry) ⊎ (inserts (since cs) ≡ takes (since cs) + most (links cs))
+        go (yes short) d f = inl short
+        go (no long) (yes above) f = inr (inl above)
+        go (no long) (no low) (no many) = inr (inr (omega (arith, at-most)))
+        go (no long) (no low) (yes few) = absurd (unlike (sym (ap isDone (insert-accepted entry is (omega arith) (omega arith) few)) ∙ refusal))

@@ -4,7 +4,7 @@ use mathlib.Core.Path.{_≡_, refl, sym, subst}
 use mathlib.Core.Bool.{Bool, true, false}
 use mathlib.Core.List.{List, [], _∷_}
 use native.Mathlib.Omega.{arith}
-use lib.Dec.{T, leb, leb→le}
+use lib.Dec.{T, leb, leb→le, lit≤}
 use lib.ListN.{getD, length}
 use Rattle.rules.specs.Links.{s, mostLinks}
 use Rattle.rules.specs.Queue.{Queue}
@@ -12,7 +12,7 @@ use Rattle.rules.specs.Book.{isLinkNumber}
 use Rattle.rules.proofs.Table.{and-one, and-two}
 use Rattle.rules.proofs.Bound.{Paid}
 use Rattle.rules.proofs.History.{Since, steps-bound, packings-bound, paid-one, paid-two, paid-three, paid-four}
-use Rattle.demands.specs.Bounds.{perInsert, perPacking, stepsBound}
+use Rattle.demands.specs.Bounds.{perInsert, perPacking, stepsBound, rows}
 
 -- a link number is one of four
 pub of-four : (P : ℕ → Type 0) → P 1 → P 2 → P 3 → P 4 → (l : ℕ) → T (isLinkNumber l) → P l
@@ -42,3 +42,15 @@ paid = of-four Enough paid-one paid-two paid-three paid-four
 pub few-steps : (l : ℕ) → T (isLinkNumber l) → {n p t : ℕ} {q : Queue} → Since l n p t q → t ≤ stepsBound l n p
 unfolding stepsBound
 few-steps l number h = steps-bound l number (perInsert l) (perPacking l) (λ i. getD (credits l) i 0) (paid l number) h
+
+-- one to four
+pub one-to-four : (l : ℕ) → T (isLinkNumber l) → (1 ≤ l) × (l ≤ 4)
+one-to-four = of-four (λ l. (1 ≤ l) × (l ≤ 4)) (lit≤ tt, lit≤ tt) (lit≤ tt, lit≤ tt) (lit≤ tt, lit≤ tt) (lit≤ tt, lit≤ tt)
+
+-- the rows, from the one bound
+pub four-rows : (l n p t : ℕ) → t ≤ stepsBound l n p
+    → (l ≡ 1 → t ≤ 2 * n + 32 * p) × (l ≡ 2 → t ≤ 6 * n + 384 * p) × (l ≡ 3 → t ≤ 13 * n + 5760 * p) × (l ≡ 4 → t ≤ 22 * n + 138240 * p)
+four-rows l n p t h =
+    let r = rows n p in
+    let at : (m : ℕ) → l ≡ m → t ≤ stepsBound m n p = λ m e. subst (λ l. t ≤ stepsBound l n p) e h in
+    (λ e. omega (arith, at 1 e, r .0), λ e. omega (arith, at 2 e, r .1), λ e. omega (arith, at 3 e, r .2), λ e. omega (arith, at 4 e, r .3))

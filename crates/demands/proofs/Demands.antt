@@ -1,6 +1,7 @@
 -- The three demands and the day tally, side by side. What a call, a history and its sums are: specs/Histories.antt. Each function's contract is a call that was made: MadeLaws.
-use Prim.Native.Nat.{ℕ, _+_, _/_, _≤_, _<_}
+use Prim.Native.Nat.{ℕ, _+_, _*_, _/_, _≤_, _<_}
 use mathlib.Core.Path.{_≡_, refl}
+use mathlib.Core.Logic.{_⊎_}
 use mathlib.Core.Bool.{true, false}
 use mathlib.Core.List.{List, [], _∷_, _++_}
 use lib.ListN.{length, getD, take, drop}
@@ -9,6 +10,7 @@ use Rattle.rules.specs.declared.Answer.the-variants.{Done, NoneHeld, NoPlace}
 use Rattle.rules.specs.Entries.{door}
 use Rattle.rules.specs.Links.{s, most, words}
 use Rattle.rules.specs.Examples.{insertOf, takeIt, lookAt, heldNow, auditIt, call}
+use Rattle.rules.proofs.EntryOrder.{Earlier}
 use Rattle.rules.proofs.History.{packings-bound}
 use Rattle.buffers.specs.Format.{linksIn, lentOf}
 use Rattle.queue.proofs.AgreeLaws.{Agree}
@@ -24,7 +26,7 @@ use Rattle.demands.specs.Exact.{Answers}
 use Rattle.demands.specs.Bounds.{stepsBound}
 use Rattle.demands.specs.Tallies.{tallyAfter, sums}
 use Rattle.demands.proofs.HistoryLaws.{stands}
-use Rattle.demands.proofs.BoundLaws.{few-steps}
+use Rattle.demands.proofs.BoundLaws.{few-steps, four-rows, one-to-four}
 use Rattle.demands.proofs.SmallestLaws as smallest
 use Rattle.demands.proofs.SmallestLaws.{Before, before, no-setup}
 use Rattle.demands.proofs.AnswerLaws as answers
@@ -63,6 +65,10 @@ module _ {ws : List ℕ} (later : List Call) (c : Call) (earlier : List Call) (h
   pub each-take-the-smallest : c .order ≡ takeIt → accepted c ≡ true → Smallest (c .word) (since earlier)
   each-take-the-smallest is done = let b = before later c earlier h (no-setup c takeIt is refl) in smallest.smallest-taken (b .history) c (b .ws′) (b .made) is done
 
+  -- "due tick, then door, then command": none still held comes before it
+  pub each-take-the-earliest : c .order ≡ takeIt → accepted c ≡ true → (v : ℕ) → StillHeld v (since earlier) → Earlier v (c .word) → ⊥
+  each-take-the-earliest is done = smallest.none-earlier (c .word) (since earlier) (each-take-the-smallest is done)
+
   -- "Look does the same and removes nothing."
   pub each-look-the-smallest : c .order ≡ lookAt → accepted c ≡ true → Smallest (c .word) (since earlier)
   each-look-the-smallest is done = let b = before later c earlier h (no-setup c lookAt is refl) in smallest.smallest-seen (b .history) c (b .ws′) (b .made) is done
@@ -77,6 +83,11 @@ module _ {ws : List ℕ} (later : List Call) (c : Call) (earlier : List Call) (h
   -- and so is an insert with its work area and a known door while fewer than H are held
   pub each-insert-accepted : (e : ℕ) → c .order ≡ insertOf e → most (links earlier) ≤ c .work → door e ≤ 2 → inserts (since earlier) < takes (since earlier) + most (links earlier) → c .answer ≡ Done
   each-insert-accepted e is = let b = before later c earlier h (no-setup c (insertOf e) is refl) in answers.insert-accepted (b .history) (b .ws′) c (b .made) e is
+
+  -- it is refused for no other reason
+  pub refused-insert-why : (e : ℕ) → c .order ≡ insertOf e → accepted c ≡ false
+      → (c .work < most (links earlier)) ⊎ (2 < door e) ⊎ (inserts (since earlier) ≡ takes (since earlier) + most (links earlier))
+  refused-insert-why e is = let b = before later c earlier h (no-setup c (insertOf e) is refl) in answers.refused-insert (b .history) (b .ws′) c (b .made) e is
 
   -- "once the queue is empty, exactly as often": a take is refused only then, and with 6
   pub refused-take-empty : c .order ≡ takeIt → accepted c ≡ false → (c .answer ≡ NoneHeld) × ((v : ℕ) → times v (takenOut (since earlier)) ≡ times v (putIn (since earlier)))
@@ -111,11 +122,35 @@ module _ {ws : List ℕ} (cs : List Call) (h : History cs ws) where
   pub held-at-most : inserts (since cs) ≤ takes (since cs) + most (links cs)
   held-at-most = answers.at-most h
 
-  -- ---- demand 3
+-- "A frame written and read again is the same frame, and the reverse."
+pub frame-read-again : (o : Order) (out out′ : List ℕ) (n : ℕ) (r : ReadFrame) → Fits o → Writes o out out′ (Bytes n) → Reads (take n out′) r → r ≡ Read o
+frame-read-again = read-back
 
-  -- "in any history with n accepted inserts and P packings the steps total at most 2n + 32P, 6n + 384P, 13n + 5,760P, 22n + 138,240P for one to four links": `rows` of specs/Bounds.antt
+pub frame-written-again : (line : List ℕ) (o : Order) (out out′ : List ℕ) (r : Written) → Reads line (Read o) → length line ≤ length out → Writes o out out′ r
+    → (r ≡ Bytes (length line)) × (out′ ≡ line ++ drop (length line) out)
+frame-written-again = write-back
+
+-- ---- demand 3
+
+-- "the steps that each call reports are those of the rules"
+pub steps-of-the-rules : (ws ws′ : List ℕ) (c : Call) → Made ws c ws′ → c .steps ≡ call (c .work) (c .order) (lentOf ws) .steps
+steps-of-the-rules ws ws′ c made = made .steps-are
+
+module _ {ws : List ℕ} (cs : List Call) (h : History cs ws) where
+  -- "in any history with n accepted inserts and P packings the steps total at most ..": one theorem over the number of links
   pub steps-bounded : steps (since cs) ≤ stepsBound (links cs) (inserts (since cs)) (packings (since cs))
   steps-bounded = few-steps (links cs) (stands h .number) (stands h .goes)
+
+  -- ".. 2n + 32P, 6n + 384P, 13n + 5,760P, 22n + 138,240P for one to four links"
+  pub steps-by-rows : let n = inserts (since cs) in
+      let p = packings (since cs) in
+      let t = steps (since cs) in
+      (links cs ≡ 1 → t ≤ 2 * n + 32 * p) × (links cs ≡ 2 → t ≤ 6 * n + 384 * p) × (links cs ≡ 3 → t ≤ 13 * n + 5760 * p) × (links cs ≡ 4 → t ≤ 22 * n + 138240 * p)
+  steps-by-rows = four-rows (links cs) (inserts (since cs)) (packings (since cs)) (steps (since cs)) steps-bounded
+
+  -- and there are no other links: "link number 1 to 4"
+  pub one-to-four-links : (1 ≤ links cs) × (links cs ≤ 4)
+  one-to-four-links = one-to-four (links cs) (stands h .number)
 
   -- "P is at most n divided by s(L), rounded down"
   pub packings-few : packings (since cs) ≤ inserts (since cs) / s (links cs)
@@ -127,19 +162,6 @@ module _ {ws : List ℕ} (cs : List Call) (h : History cs ws) where
   pub tally-the-sums : Within (sums cs) → tallyAfter cs ≡ sums cs
   tally-the-sums = tally-sums cs (history-made h)
 
-  -- since the last accepted setup too, so the bounds are the tally's
-  pub tally-since : Within (sums (since cs)) → tallyAfter (since cs) ≡ sums (since cs)
-  tally-since = tally-sums (since cs) (since-made cs (history-made h))
-
--- "the steps that each call reports are those of the rules"
-pub steps-of-the-rules : (ws ws′ : List ℕ) (c : Call) → Made ws c ws′ → c .steps ≡ call (c .work) (c .order) (lentOf ws) .steps
-steps-of-the-rules ws ws′ c made = made .steps-are
-
--- ---- demand 2, of frames: "A frame written and read again is the same frame, and the reverse."
-
-pub frame-read-again : (o : Order) (out out′ : List ℕ) (n : ℕ) (r : ReadFrame) → Fits o → Writes o out out′ (Bytes n) → Reads (take n out′) r → r ≡ Read o
-frame-read-again = read-back
-
-pub frame-written-again : (line : List ℕ) (o : Order) (out out′ : List ℕ) (r : Written) → Reads line (Read o) → length line ≤ length out → Writes o out out′ r
-    → (r ≡ Bytes (length line)) × (out′ ≡ line ++ drop (length line) out)
-frame-written-again = write-back
+  -- a tally begun at the last accepted setup keeps demand 3's bound
+  pub tally-bounded : Within (sums (since cs)) → let t = tallyAfter (since cs) in t .steps ≤ stepsBound (links cs) (t .inserts) (t .packings)
+  tally-bounded w = rw (tally-sums (since cs) (since-made cs (history-made h)) w) steps-bounded

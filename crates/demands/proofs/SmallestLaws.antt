@@ -13,6 +13,7 @@ use Rattle.rules.specs.Queue.{Queue, held}
 use Rattle.rules.specs.Calls.{Lent, queueOf, take, look}
 use Rattle.rules.specs.Examples.{Order, takeIt, lookAt, call}
 use Rattle.rules.proofs.Weight.{sumOf, sumOf-ones, oneIf, timesOf}
+use Rattle.rules.proofs.EntryOrder.{Earlier, earlier-smaller}
 use Rattle.rules.proofs.History.{since-fine, since-ordered}
 use Rattle.buffers.specs.Format.{lentOf}
 use Rattle.demands.specs.Histories.{Call, Made, accepted, isSetup, begins, History, first, next, since, links, brought, handed, ifDone, putIn, takenOut, once, times, StillHeld, Smallest}
@@ -141,3 +142,7 @@ look-adds-none c cs is =
 -- the take hands out what the look has shown
 pub taken-as-seen : (c d : Call) (cs : List Call) → d .order ≡ lookAt → Smallest (c .word) (since (d ∷ cs)) → Smallest (d .word) (since cs) → c .word ≡ d .word
 taken-as-seen c d cs is one two = let same = look-adds-none d cs is in one-smallest (c .word) (d .word) (since (d ∷ cs)) (since cs) (same .0) (same .1) one two
+
+-- none that is still held comes earlier by tick, door and command
+pub none-earlier : (e : ℕ) (cs : List Call) → Smallest e cs → (v : ℕ) → StillHeld v cs → Earlier v e → ⊥
+none-earlier e cs s v still earlier = omega (arith, s .least v still, earlier-smaller v e earlier)
