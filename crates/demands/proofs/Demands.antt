@@ -21,7 +21,7 @@ use Rattle.frames.specs.declared.ReadFrame.{ReadFrame}
 use Rattle.frames.specs.declared.ReadFrame.the-variants.{Order as Read}
 use Rattle.frames.specs.declared.Written.{Written}
 use Rattle.frames.specs.declared.Written.the-variants.{Bytes}
-use Rattle.demands.specs.Histories.{Call, Made, accepted, History, since, links, putIn, takenOut, inserts, takes, packings, steps, times, StillHeld, Smallest}
+use Rattle.demands.specs.Histories.{Call, Made, accepted, History, Sequence, hasSetup, fromSetup, since, links, putIn, takenOut, inserts, takes, packings, steps, times, StillHeld, Smallest}
 use Rattle.demands.specs.Exact.{Answers}
 use Rattle.demands.specs.Bounds.{stepsBound}
 use Rattle.demands.specs.Tallies.{tallyAfter, sums}
@@ -29,6 +29,7 @@ use Rattle.demands.proofs.HistoryLaws.{stands}
 use Rattle.demands.proofs.BoundLaws.{few-steps, four-rows, one-to-four}
 use Rattle.demands.proofs.SmallestLaws as smallest
 use Rattle.demands.proofs.SmallestLaws.{Before, before, no-setup}
+use Rattle.demands.proofs.SequenceLaws.{from-setup, since-same, links-same}
 use Rattle.demands.proofs.AnswerLaws as answers
 use Rattle.demands.proofs.MadeLaws.{Nothing, refused-nothing, made-agree}
 use Rattle.demands.proofs.TallyLaws.{history-made, since-made, tally-sums}
@@ -107,6 +108,11 @@ pub take-after-look : {ws : List ℕ} (later : List Call) (c d : Call) (earlier 
 take-after-look later c d earlier h takes-it done looks seen =
     let b = before later c (d ∷ earlier) h (no-setup c takeIt takes-it refl) in
     smallest.taken-as-seen c d earlier looks (each-take-the-smallest later c (d ∷ earlier) h takes-it done) (each-look-the-smallest [] d earlier (b .history) looks seen)
+
+-- "any sequence of calls on one array": where an accepted setup is among them, it is a history from the last one on, with the same calls and links since
+pub sequences-are-histories : {ws ws′ : List ℕ} (cs : List Call) → Sequence ws cs ws′ → hasSetup cs ≡ true
+    → History (fromSetup cs) ws′ × (since (fromSetup cs) ≡ since cs) × (links (fromSetup cs) ≡ links cs)
+sequences-are-histories cs calls has = (from-setup calls has, since-same cs, links-same cs)
 
 -- at the end of any history
 module _ {ws : List ℕ} (cs : List Call) (h : History cs ws) where

@@ -8,7 +8,7 @@ use lib.ListN.{length}
 use Rattle.rules.specs.declared.Answer.{Answer}
 use Rattle.rules.specs.Answers.{isDone}
 use Rattle.rules.specs.Entries.{wholeWord}
-use Rattle.rules.specs.Tests.{_and_}
+use Rattle.rules.specs.Tests.{_and_, _or_}
 use Rattle.rules.specs.Examples.{Order, setupOf, insertOf, takeIt, lookAt, heldNow, auditIt, call}
 use Rattle.buffers.specs.Format.{lentOf}
 use Rattle.queue.specs.Calls.{Called}
@@ -67,6 +67,20 @@ since (c ∷ cs) = elim (begins c) [ true ↦ [] | false ↦ c ∷ since cs ]
 abbrev pub links : List Call → ℕ
 links [] = 0
 links (c ∷ cs) = elim (begins c) [ true ↦ linksOf (c .order) | false ↦ links cs ]
+
+-- any calls one after the other on one array, from the words ws on: before the first accepted setup too
+pub data Sequence (ws : List ℕ) : List Call → List ℕ → Type 0 where
+  none : Sequence ws [] ws
+  more : (ws₁ ws₂ : List ℕ) (c : Call) (cs : List Call) → Sequence ws cs ws₁ → Made ws₁ c ws₂ → Sequence ws (c ∷ cs) ws₂
+
+abbrev pub hasSetup : List Call → Bool
+hasSetup [] = false
+hasSetup (c ∷ cs) = begins c or hasSetup cs
+
+-- the last accepted setup, and the calls since
+abbrev pub fromSetup : List Call → List Call
+fromSetup [] = []
+fromSetup (c ∷ cs) = elim (begins c) [ true ↦ c ∷ [] | false ↦ c ∷ fromSetup cs ]
 
 -- ---- sums over calls
 
