@@ -18,7 +18,7 @@ use Rattle.rules.specs.Queue.{Queue, keyOf, held}
 use Rattle.rules.specs.Insert.{inserted}
 use Rattle.rules.specs.Order.{inOrder}
 use Rattle.rules.specs.Book.{isLinkNumber, sound}
-use Rattle.rules.specs.Calls.{Lent, Outcome, Check, _else_, firstFailing, refused, unless, arrayChecks, takeChecks, queueOf, setup, insert, take, look, heldCall, audit}
+use Rattle.rules.specs.Calls.{Lent, Outcome, Check, _else_, firstFailing, refused, unless, arrayChecks, takeChecks, queueOf, setup, insertChecks, insert, take, look, heldCall, audit}
 use Rattle.rules.specs.Examples.{Order, setupOf, insertOf, takeIt, lookAt, heldNow, auditIt, call}
 use Rattle.demands.specs.Histories.{isSetup}
 use Rattle.demands.specs.Exact.{NoLinkNumber, Enough, WorkEnough, Sound, Answers, no-links, setup-short, short, short-for-its-links, work-short, no-number, broken, full, none-to-take, none-to-see, door-above, no-place, disordered, setup-done, insert-done, take-done, look-done, held-done, audit-done}
@@ -66,16 +66,9 @@ unless-answers failing q accepted done = go (isDone failing) refl
 -- "Checks run: setup 1, 2; all others: 2 (296 words), 4 (link number), 2 (its L), then insert 3, 4, 7, 5, 8; take and look 4, 6; held 4; audit 4, 9."
 pub checksOf : ℕ → Order → Lent → List Check
 checksOf work (setupOf l) a = (isLinkNumber l else NoSuchLinks) ∷ (leb (words l) (a .length) else ArrayShort) ∷ []
-checksOf work (insertOf entry) a =
-    arrayChecks a (
-    (leb (most (a .book .links)) work else WorkShort)
-    ∷ (sound (a .book) else BookBroken)
-    ∷ (leb (door entry) 2 else DoorAbove)
-    ∷ (ltb (held (queueOf a)) (most (a .book .links)) else Full)
-    ∷ (inserted entry (queueOf a) .fits else NoPlace)
-    ∷ [])
-checksOf work takeIt a = arrayChecks a ((sound (a .book) else BookBroken) ∷ (ltb 0 (held (queueOf a)) else NoneHeld) ∷ [])
-checksOf work lookAt a = arrayChecks a ((sound (a .book) else BookBroken) ∷ (ltb 0 (held (queueOf a)) else NoneHeld) ∷ [])
+checksOf work (insertOf entry) a = insertChecks work entry a
+checksOf work takeIt a = takeChecks a
+checksOf work lookAt a = takeChecks a
 checksOf work heldNow a = arrayChecks a ((sound (a .book) else BookBroken) ∷ [])
 checksOf work auditIt a = arrayChecks a ((sound (a .book) else BookBroken) ∷ (inOrder (keyOf (queueOf a)) (treeOf (a .book .links)) (a .buffers) else OrderBroken) ∷ [])
 
@@ -171,7 +164,7 @@ module _ (work : ℕ) (a : Lent) where
   count = held (queueOf a)
 
   says-setup : (l : ℕ) → Says (setupOf l) (firstFailing (checksOf work (setupOf l) a))
-  unfolding checksOf firstFailing
+  unfolding checksOf firstFailing insertChecks takeChecks queueOf
   says-setup l =
       let P = Says (setupOf l) in
       let last = (leb (words l) (a .length) else ArrayShort) ∷ [] in
@@ -184,7 +177,7 @@ module _ (work : ℕ) (a : Lent) where
       (λ number. by-number l (P NoSuchLinks) false number (λ e one four. absurd (subst T (sym e) tt)) (λ e none. no-links l none))
 
   says-insert : (entry : ℕ) → Says (insertOf entry) (firstFailing (checksOf work (insertOf entry) a))
-  unfolding checksOf firstFailing
+  unfolding checksOf firstFailing insertChecks takeChecks queueOf
   says-insert entry =
       let order = insertOf entry in
       let P = Says order in
@@ -209,7 +202,7 @@ module _ (work : ℕ) (a : Lent) where
       (λ w. work-short entry enough (leb-false H work w)))
 
   says-take : Says takeIt (firstFailing (checksOf work takeIt a))
-  unfolding checksOf firstFailing
+  unfolding checksOf firstFailing insertChecks takeChecks queueOf
   says-take =
       let last = (ltb 0 count else NoneHeld) ∷ [] in
       by-array a ((sound (a .book) else BookBroken) ∷ last) work takeIt refl (λ enough.
@@ -221,7 +214,7 @@ module _ (work : ℕ) (a : Lent) where
       (λ holds. broken takeIt refl enough tt holds))
 
   says-look : Says lookAt (firstFailing (checksOf work lookAt a))
-  unfolding checksOf firstFailing
+  unfolding checksOf firstFailing insertChecks takeChecks queueOf
   says-look =
       let last = (ltb 0 count else NoneHeld) ∷ [] in
       by-array a ((sound (a .book) else BookBroken) ∷ last) work lookAt refl (λ enough.
@@ -233,7 +226,7 @@ module _ (work : ℕ) (a : Lent) where
       (λ holds. broken lookAt refl enough tt holds))
 
   says-held : Says heldNow (firstFailing (checksOf work heldNow a))
-  unfolding checksOf firstFailing
+  unfolding checksOf firstFailing insertChecks takeChecks queueOf
   says-held =
       by-array a ((sound (a .book) else BookBroken) ∷ []) work heldNow refl (λ enough.
       by-check BookBroken [] (Says heldNow) (sound (a .book))
@@ -241,7 +234,7 @@ module _ (work : ℕ) (a : Lent) where
       (λ holds. broken heldNow refl enough tt holds))
 
   says-audit : Says auditIt (firstFailing (checksOf work auditIt a))
-  unfolding checksOf firstFailing
+  unfolding checksOf firstFailing insertChecks takeChecks queueOf
   says-audit =
       let order = inOrder (keyOf (queueOf a)) (treeOf (a .book .links)) (a .buffers) in
       let last = (order else OrderBroken) ∷ [] in
@@ -272,7 +265,7 @@ module _ (work : ℕ) (a : Lent) where
   rest auditIt = (sound (a .book) else BookBroken) ∷ (inOrder (keyOf (queueOf a)) (treeOf (a .book .links)) (a .buffers) else OrderBroken) ∷ []
 
   splits : (order : Order) → isSetup order ≡ false → checksOf work order a ≡ arrayChecks a (rest order)
-  unfolding checksOf rest
+  unfolding checksOf rest insertChecks takeChecks queueOf
   splits (setupOf l) e = absurd (subst T e tt)
   splits (insertOf entry) e = refl
   splits takeIt e = refl
