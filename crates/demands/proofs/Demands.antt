@@ -1,5 +1,5 @@
 -- The three demands and the day tally, side by side. What a call, a history and its sums are: specs/Histories.antt. Each function's contract is a call that was made: MadeLaws.
-use Prim.Native.Nat.{ℕ, _+_, _*_, _/_, _≤_, _<_}
+use Prim.Native.Nat.{ℕ, _+_, _*_, _/_, _^_, _≤_, _<_}
 use mathlib.Core.Path.{_≡_, refl}
 use mathlib.Core.Logic.{_⊎_}
 use mathlib.Core.Bool.{true, false}
@@ -32,6 +32,7 @@ use Rattle.demands.proofs.SmallestLaws.{Before, before, no-setup}
 use Rattle.demands.proofs.SequenceLaws.{from-setup, since-same, links-same}
 use Rattle.demands.proofs.AnswerLaws as answers
 use Rattle.demands.proofs.MadeLaws.{Nothing, refused-nothing, made-agree}
+use Rattle.demands.proofs.DigitLaws.{eight-digits}
 use Rattle.demands.proofs.TallyLaws.{history-made, since-made, tally-sums}
 use Rattle.demands.proofs.FrameLaws.{Reads, Writes, read-back, write-back}
 
@@ -141,6 +142,10 @@ frame-written-again = write-back
 -- "the steps that each call reports are those of the rules"
 pub steps-of-the-rules : (ws ws′ : List ℕ) (c : Call) → Made ws c ws′ → c .steps ≡ call (c .work) (c .order) (lentOf ws) .steps
 steps-of-the-rules ws ws′ c made = made .steps-are
+
+-- "steps, 8": on any array they have at most eight hexadecimal digits
+pub steps-eight-digits : (ws ws′ : List ℕ) (c : Call) → Made ws c ws′ → c .steps < 16 ^ 8
+steps-eight-digits ws ws′ c made = eight-digits ws ws′ c made
 
 module _ {ws : List ℕ} (cs : List Call) (h : History cs ws) where
   -- "in any history with n accepted inserts and P packings the steps total at most ..": one theorem over the number of links
