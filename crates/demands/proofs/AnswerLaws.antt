@@ -1,29 +1,27 @@
 -- What the calls of a history answer: nothing that can be done is refused.
-use Prim.Native.Nat.{ℕ, zero, suc, _+_, _≤_, _<_}
+use Prim.Native.Nat.{ℕ, _+_, _≤_, _<_}
 use mathlib.Core.Path.{_≡_, refl, sym, ap, _∙_, subst}
 use mathlib.Core.Logic.{_⊎_, inl, inr}
 use mathlib.Core.Bool.{Bool, true, false}
-use mathlib.Core.List.{List, [], _∷_}
+use mathlib.Core.List.{List}
 use native.Mathlib.Omega.{arith}
 use native.Mathlib.Decide.{decLt}
-use lib.Dec.{T, eqb, leb, leb→le, lit≤}
-use lib.ListN.{length}
+use lib.Dec.{T, eqb, lit≤}
 use Rattle.rules.specs.declared.Answer.{Answer}
 use Rattle.rules.specs.declared.Answer.the-variants.{Done, Full, NoneHeld, NoPlace}
 use Rattle.rules.specs.Answers.{isDone}
 use Rattle.rules.specs.Entries.{door}
-use Rattle.rules.specs.Links.{most, words, mostLinks}
+use Rattle.rules.specs.Links.{most, words}
 use Rattle.rules.specs.Tree.{treeOf}
-use Rattle.rules.specs.Take.{insertion, heldIn}
+use Rattle.rules.specs.Take.{insertion}
 use Rattle.rules.specs.Queue.{Queue, keyOf, held}
 use Rattle.rules.specs.Insert.{inserted}
 use Rattle.rules.specs.Order.{inOrder}
-use Rattle.rules.specs.Book.{isLinkNumber, sound}
-use Rattle.rules.specs.Calls.{Lent, queueOf, heldCall}
-use Rattle.rules.specs.Examples.{Order, setupOf, insertOf, takeIt, lookAt, heldNow, auditIt, call}
+use Rattle.rules.specs.Book.{isLinkNumber}
+use Rattle.rules.specs.Calls.{queueOf}
+use Rattle.rules.specs.Examples.{Order, insertOf, takeIt, lookAt, heldNow, auditIt, call}
 use Rattle.rules.proofs.Weight.{sumOf, oneIf}
 use Rattle.rules.proofs.Full.{no-entries}
-use Rattle.rules.proofs.Table.{and-one, and-two}
 use Rattle.rules.proofs.TakeLaws.{none-weighs}
 use Rattle.rules.proofs.Held.{held-split}
 use Rattle.rules.proofs.BookLaws.{sound-says}
@@ -34,8 +32,8 @@ use Rattle.buffers.proofs.Exact.{sound-inside}
 use Rattle.queue.proofs.BookLaws.{describes, shaped}
 use Rattle.demands.specs.Histories.{Call, Made, accepted, History, since, links, putIn, takenOut, inserts, takes, times, StillHeld}
 use Rattle.demands.specs.Exact.{Enough, WorkEnough, Sound, Answers, no-place, full, insert-done, take-done, look-done, held-done, audit-done, none-to-take, none-to-see}
-use Rattle.demands.proofs.CallLaws.{weightOf, timesHeld, held-word}
-use Rattle.demands.proofs.HistoryLaws.{Stands, stands}
+use Rattle.demands.proofs.CallLaws.{timesHeld, held-word}
+use Rattle.demands.proofs.HistoryLaws.{stands}
 use Rattle.demands.proofs.BoundLaws.{of-four}
 use Rattle.demands.proofs.SmallestLaws.{times-held, number-held}
 use Rattle.demands.proofs.ExactLaws.{exactly}

@@ -1,17 +1,16 @@
 -- The steps of a history are bounded, and its packings are rare.
-use Prim.Native.Nat.{ℕ, zero, suc, _+_, _*_, _/_, _≤_}
-use mathlib.Core.Path.{_≡_, refl, sym, subst}
-use mathlib.Core.Bool.{Bool, true, false}
+use Prim.Native.Nat.{ℕ, zero, suc, _+_, _*_, _≤_}
+use mathlib.Core.Path.{_≡_, subst}
 use mathlib.Core.List.{List, [], _∷_}
 use native.Mathlib.Omega.{arith}
 use lib.Dec.{T, leb, leb→le, lit≤}
-use lib.ListN.{getD, length}
-use Rattle.rules.specs.Links.{s, mostLinks}
+use lib.ListN.{getD}
+use Rattle.rules.specs.Links.{mostLinks}
 use Rattle.rules.specs.Queue.{Queue}
 use Rattle.rules.specs.Book.{isLinkNumber}
-use Rattle.rules.proofs.Table.{and-one, and-two}
+use Rattle.rules.proofs.Table.{and-two}
 use Rattle.rules.proofs.Bound.{Paid}
-use Rattle.rules.proofs.History.{Since, steps-bound, packings-bound, paid-one, paid-two, paid-three, paid-four}
+use Rattle.rules.proofs.History.{Since, steps-bound, paid-one, paid-two, paid-three, paid-four}
 use Rattle.demands.specs.Bounds.{perInsert, perPacking, stepsBound, rows}
 
 -- a link number is one of four

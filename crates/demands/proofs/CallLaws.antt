@@ -1,8 +1,8 @@
 -- One call, of the rules: what it brings in and hands out is all that changes in what is held.
-use Prim.Native.Nat.{ℕ, zero, suc, _+_, _≤_, _<_}
-use mathlib.Core.Path.{_≡_, refl, sym, ap, _∙_, subst}
-use mathlib.Core.Bool.{Bool, true, false}
-use mathlib.Core.List.{List, [], _∷_, _++_}
+use Prim.Native.Nat.{ℕ, _+_, _≤_, _<_}
+use mathlib.Core.Path.{_≡_, refl, sym, ap, subst}
+use mathlib.Core.Bool.{false}
+use mathlib.Core.List.{List, [], _∷_}
 use native.Mathlib.Omega.{arith}
 use borrow.Author.Tests.{eq-eqb}
 use lib.Dec.{T, T-not, eqb}
@@ -12,23 +12,22 @@ use Rattle.rules.specs.declared.Answer.the-variants.{Done}
 use Rattle.rules.specs.Answers.{isDone}
 use Rattle.rules.specs.Links.{words}
 use Rattle.rules.specs.Book.{isLinkNumber}
-use Rattle.rules.specs.Tree.{Buffers, Tree, treeOf}
-use Rattle.rules.specs.Take.{Taken, insertion, heldIn, ready, takeOne}
+use Rattle.rules.specs.Tree.{treeOf}
+use Rattle.rules.specs.Take.{insertion, takeOne}
 use Rattle.rules.specs.Entries.{wholeWord}
 use Rattle.rules.specs.Queue.{Queue, keyOf, held, fresh}
-use Rattle.rules.specs.Insert.{inserted}
 use Rattle.rules.specs.Order.{inOrder}
 use Rattle.rules.specs.Calls.{Lent, Outcome, queueOf, refused, theEntry, withBuffers, setup, insert, take, look, heldCall, audit}
 use Rattle.rules.specs.Examples.{Order, setupOf, insertOf, takeIt, lookAt, heldNow, auditIt, call}
-use Rattle.rules.proofs.Weight.{sumOf, sumOf-ones, oneIf, timesOf, timesIn, held-weight}
+use Rattle.rules.proofs.Weight.{sumOf, sumOf-ones, oneIf, held-weight}
 use Rattle.rules.proofs.Takes.{Beside}
-use Rattle.rules.proofs.TakeLaws.{weightAll, heldAll, take-one, take-pays, ready-pays, none-weighs}
+use Rattle.rules.proofs.TakeLaws.{weightAll, take-one, take-pays, ready-pays, none-weighs}
 use Rattle.rules.proofs.TakeOrder.{take-smallest}
 use Rattle.rules.proofs.Held.{held-split}
 use Rattle.rules.proofs.Numbering.{tree-roomy}
 use Rattle.rules.proofs.BookKept.{beside-tree, fresh-empty, fresh-held}
 use Rattle.rules.proofs.InsertLaws.{inserted-keeps, inserted-links}
-use Rattle.rules.proofs.Accepted.{Refusal, MayTake, take-cases, look-cases, setup-cases, insert-call-cases, held-cases, audit-cases}
+use Rattle.rules.proofs.Accepted.{Refusal, take-cases, look-cases, setup-cases, insert-call-cases, held-cases, audit-cases}
 use Rattle.rules.proofs.History.{Fine}
 use Rattle.demands.specs.Histories.{isSetup, brought, handed}
 

@@ -28,7 +28,7 @@ use Rattle.demands.specs.Tallies.{tallyAfter, sums}
 use Rattle.demands.proofs.HistoryLaws.{stands}
 use Rattle.demands.proofs.BoundLaws.{few-steps, four-rows, one-to-four}
 use Rattle.demands.proofs.SmallestLaws as smallest
-use Rattle.demands.proofs.SmallestLaws.{Before, before, no-setup}
+use Rattle.demands.proofs.SmallestLaws.{before, no-setup}
 use Rattle.demands.proofs.SequenceLaws.{from-setup, since-same, links-same}
 use Rattle.demands.proofs.AnswerLaws as answers
 use Rattle.demands.proofs.MadeLaws.{Nothing, refused-nothing, made-agree}

@@ -1,34 +1,32 @@
 -- "steps, 8": the steps of any call on any array have at most eight hexadecimal digits.
 use Prim.Native.Nat.{ℕ, zero, suc, _+_, _-_, _*_, _^_, _≤_, _<_}
-use mathlib.Core.Path.{_≡_, refl, sym, ap, _∙_, subst}
+use mathlib.Core.Path.{_≡_, refl}
 use mathlib.Core.Bool.{Bool, true, false}
 use mathlib.Core.List.{List, []}
 use native.Mathlib.Omega.{arith}
-use native.Mathlib.Nat.{mul-le-mul-right, mul-le-mul-left}
+use native.Mathlib.Nat.{mul-le-mul-right}
 use lib.Dec.{T, leb, leb→le, lit≤}
 use lib.ListN.{length, getD}
 use Rattle.rules.specs.declared.Answer.{Answer}
-use Rattle.rules.specs.Answers.{isDone}
-use Rattle.rules.specs.Links.{s, k, height, capacity, most, mostLinks}
+use Rattle.rules.specs.Links.{s, k, height, capacity, most}
 use Rattle.rules.specs.Tests.{every}
 use Rattle.rules.specs.Tree.{Buffers, Tree, exhausted, buffer, merger, treeOf, linksFrom, kMerger, perfect}
-use Rattle.rules.specs.Take.{insertion, heldIn, ready, takeOne}
+use Rattle.rules.specs.Take.{insertion, heldIn, takeOne}
 use Rattle.rules.specs.Queue.{Queue, keyOf, counter, held}
 use Rattle.rules.specs.Insert.{inserted}
 use Rattle.rules.specs.Book.{isLinkNumber, sound}
-use Rattle.rules.specs.Calls.{Lent, Outcome, queueOf, refused, setup, insert, take, look, heldCall, audit}
+use Rattle.rules.specs.Calls.{Lent, Outcome, queueOf, refused}
 use Rattle.rules.specs.Examples.{Order, setupOf, insertOf, takeIt, lookAt, heldNow, auditIt, call}
-use Rattle.rules.proofs.Weight.{sumOf, sumOf-same, weightIn, owedIn, oneIf}
+use Rattle.rules.proofs.Weight.{sumOf-same, weightIn, owedIn, oneIf}
 use Rattle.rules.proofs.Table.{every-at}
-use Rattle.rules.proofs.Held.{held-split}
 use Rattle.rules.proofs.TakeLaws.{take-pays}
 use Rattle.rules.proofs.Takes.{Beside}
 use Rattle.rules.proofs.BookLaws.{Kept, sound-says}
 use Rattle.rules.proofs.BookKept.{Shaped, beside-tree}
-use Rattle.rules.proofs.Credits.{credits, carried}
-use Rattle.rules.proofs.Bound.{outputsMost, Paid, potential, insert-potential}
-use Rattle.rules.proofs.Accepted.{Refusal, Long, MayTake, take-cases, look-cases, insert-call-cases, held-cases, audit-cases}
-use Rattle.buffers.specs.Format.{linksIn, bookOf, lentOf}
+use Rattle.rules.proofs.Credits.{credits}
+use Rattle.rules.proofs.Bound.{outputsMost, Paid, insert-potential}
+use Rattle.rules.proofs.Accepted.{Refusal, Long, take-cases, look-cases, insert-call-cases, held-cases, audit-cases}
+use Rattle.buffers.specs.Format.{bookOf, lentOf}
 use Rattle.buffers.proofs.Exact.{sound-inside}
 use Rattle.queue.proofs.BookLaws.{describes, shaped}
 use Rattle.demands.specs.Histories.{Call, Made}

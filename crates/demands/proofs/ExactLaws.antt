@@ -1,7 +1,7 @@
 -- Each call answers each number exactly when the document says.
-use Prim.Native.Nat.{ℕ, zero, suc, _≤_, _<_}
+use Prim.Native.Nat.{ℕ, _≤_, _<_}
 use mathlib.Core.Path.{_≡_, refl, sym, ap, _∙_, subst}
-use mathlib.Core.Logic.{_⊎_, inl, inr}
+use mathlib.Core.Logic.{inl, inr}
 use mathlib.Core.Bool.{Bool, true, false}
 use mathlib.Core.List.{List, [], _∷_}
 use native.Mathlib.Omega.{arith}
@@ -12,7 +12,6 @@ use Rattle.rules.specs.declared.Answer.the-variants.{Done, NoSuchLinks, ArraySh
 use Rattle.rules.specs.Answers.{isDone}
 use Rattle.rules.specs.Entries.{door}
 use Rattle.rules.specs.Links.{most, words, mostLinks}
-use Rattle.rules.specs.Tests.{_and_}
 use Rattle.rules.specs.Tree.{treeOf}
 use Rattle.rules.specs.Queue.{Queue, keyOf, held}
 use Rattle.rules.specs.Insert.{inserted}

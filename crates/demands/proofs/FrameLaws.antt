@@ -1,9 +1,9 @@
 -- Frames, from the contracts of their reader and writer.
 use Prim.Native.Nat.{ℕ, _≤_}
-use mathlib.Core.Path.{_≡_, refl, sym, _∙_}
+use mathlib.Core.Path.{_≡_, sym, _∙_}
 use mathlib.Core.List.{List, _++_}
 use lib.ListN.{length, take, drop}
-use Rattle.frames.specs.Answers.{done, readBack, writtenBack}
+use Rattle.frames.specs.Answers.{readBack}
 use Rattle.frames.specs.Orders.{frameOf, writable, Fits}
 use Rattle.frames.specs.Frames.{readOf}
 use Rattle.frames.specs.Lines.{Laid}

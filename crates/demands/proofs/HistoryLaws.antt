@@ -1,5 +1,5 @@
 -- What is known of the array at any time in a history.
-use Prim.Native.Nat.{ℕ, zero, suc, _+_, _≤_, _<_}
+use Prim.Native.Nat.{ℕ, _+_, _≤_}
 use mathlib.Core.Path.{_≡_, refl, sym, ap, _∙_, subst}
 use mathlib.Core.Bool.{Bool, true, false}
 use mathlib.Core.List.{List, [], _∷_, _++_}
@@ -10,12 +10,12 @@ use Rattle.rules.specs.declared.Answer.{Answer}
 use Rattle.rules.specs.Answers.{isDone}
 use Rattle.rules.specs.Links.{words}
 use Rattle.rules.specs.Tests.{_and_}
-use Rattle.rules.specs.Queue.{Queue, fresh}
+use Rattle.rules.specs.Queue.{Queue}
 use Rattle.rules.specs.Book.{isLinkNumber, sound}
 use Rattle.rules.specs.Calls.{Lent, Outcome, queueOf}
 use Rattle.rules.specs.Examples.{Order, setupOf, insertOf, takeIt, lookAt, heldNow, auditIt, call}
 use Rattle.rules.proofs.Weight.{sumOf, sumOf-append, oneIf}
-use Rattle.rules.proofs.History.{Since, Fine, since-fine}
+use Rattle.rules.proofs.History.{Since, since-fine}
 use Rattle.rules.proofs.History as history
 use Rattle.rules.proofs.SinceCalls.{isInsert, insertsIn, goes-on}
 use Rattle.rules.proofs.SinceCalls as rules

@@ -5,7 +5,7 @@ use mathlib.Core.Bool.{Bool, true, false}
 use mathlib.Core.List.{List, [], _∷_}
 use lib.Dec.{T}
 use Rattle.rules.specs.Tests.{_or_}
-use Rattle.demands.specs.Histories.{Call, Made, begins, linksOf, History, first, next, since, links, Sequence, none, more, hasSetup, fromSetup}
+use Rattle.demands.specs.Histories.{Call, begins, linksOf, History, first, next, since, links, Sequence, none, more, hasSetup, fromSetup}
 
 unlike : false ≡ true → ⊥
 unlike e = subst T (sym e) tt

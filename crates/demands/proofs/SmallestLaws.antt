@@ -1,24 +1,24 @@
 -- Each take of a history hands out the smallest entry put in and still held, and no entry comes out more often than it was put in.
-use Prim.Native.Nat.{ℕ, zero, suc, _+_, _≤_, _<_}
+use Prim.Native.Nat.{ℕ, suc, _+_, _≤_}
 use mathlib.Core.Path.{_≡_, refl, sym, ap, _∙_, subst}
 use mathlib.Core.Bool.{Bool, true, false}
 use mathlib.Core.List.{List, [], _∷_, _++_}
 use native.Mathlib.Omega.{arith}
 use lib.Dec.{T, eqb}
-use lib.ListN.{length, length-append}
+use lib.ListN.{length}
 use Rattle.rules.specs.Answers.{isDone}
 use Rattle.rules.specs.Entries.{wholeWord}
 use Rattle.rules.specs.Tests.{_and_}
 use Rattle.rules.specs.Queue.{Queue, held}
 use Rattle.rules.specs.Calls.{Lent, queueOf, take, look}
 use Rattle.rules.specs.Examples.{Order, takeIt, lookAt, call}
-use Rattle.rules.proofs.Weight.{sumOf, sumOf-ones, oneIf, timesOf}
+use Rattle.rules.proofs.Weight.{sumOf-ones, oneIf, timesOf}
 use Rattle.rules.proofs.EntryOrder.{Earlier, earlier-smaller}
 use Rattle.rules.proofs.History.{since-fine, since-ordered}
 use Rattle.buffers.specs.Format.{lentOf}
 use Rattle.demands.specs.Histories.{Call, Made, accepted, isSetup, begins, History, first, next, since, links, brought, handed, ifDone, putIn, takenOut, once, times, StillHeld, Smallest}
-use Rattle.demands.proofs.CallLaws.{weightOf, held-is, timesHeld, LeastHeld, least-taken, least-seen}
-use Rattle.demands.proofs.HistoryLaws.{Stands, stands}
+use Rattle.demands.proofs.CallLaws.{held-is, timesHeld, LeastHeld, least-taken, least-seen}
+use Rattle.demands.proofs.HistoryLaws.{stands}
 
 -- ---- a call in a history
 

@@ -1,18 +1,16 @@
 -- Below the largest value the tally's fields are the sums of the calls.
-use Prim.Native.Nat.{ℕ, zero, suc, _+_, _≤_}
-use mathlib.Core.Path.{_≡_, refl, sym, ap, _∙_, subst}
+use Prim.Native.Nat.{ℕ}
+use mathlib.Core.Path.{_≡_, refl, sym, ap, _∙_}
 use mathlib.Core.Bool.{Bool, true, false}
-use mathlib.Core.List.{List, [], _∷_, _++_}
+use mathlib.Core.List.{List, [], _∷_}
 use native.Mathlib.Omega.{arith}
-use lib.Dec.{T}
 use lib.ListN.{length, length-append}
-use Rattle.rules.specs.declared.Answer.{Answer}
 use Rattle.rules.specs.Answers.{isDone}
 use Rattle.rules.specs.Calls.{Lent}
 use Rattle.rules.specs.Examples.{Order, setupOf, insertOf, takeIt, lookAt, heldNow, auditIt, call}
 use Rattle.buffers.specs.Format.{lentOf}
 use Rattle.tally.specs.declared.Tally.{Tally}
-use Rattle.tally.specs.Day.{tallyOf, nothing, largest, plus, plusEach, addedIfDone, added, upToDate}
+use Rattle.tally.specs.Day.{tallyOf, nothing, plusEach, addedIfDone, added, upToDate}
 use Rattle.tally.specs.Day as tally
 use Rattle.tally.specs.Sums.{Within}
 use Rattle.tally.specs.Told.{callOf}

@@ -8,7 +8,7 @@ use Rattle.rules.specs.declared.Answer.the-variants.{Done, NoSuchLinks, ArraySh
 use Rattle.rules.specs.Entries.{door}
 use Rattle.rules.specs.Links.{most, words}
 use Rattle.rules.specs.Tree.{treeOf}
-use Rattle.rules.specs.Queue.{Queue, keyOf, held}
+use Rattle.rules.specs.Queue.{keyOf, held}
 use Rattle.rules.specs.Insert.{inserted}
 use Rattle.rules.specs.Order.{inOrder}
 use Rattle.rules.specs.Book.{sound}
