@@ -1,8 +1,8 @@
 -- What the calls of a history answer: nothing that can be done is refused.
 use Prim.Native.Nat.{ℕ, _+_, _≤_, _<_}
-use mathlib.Core.Path.{_≡_, refl, sym, ap, _∙_, subst}
+use mathlib.Core.Path.{_≡_, sym, ap, _∙_, subst}
 use mathlib.Core.Logic.{_⊎_, inl, inr}
-use mathlib.Core.Bool.{Bool, true, false}
+use mathlib.Core.Bool.{true, false}
 use mathlib.Core.List.{List}
 use native.Mathlib.Omega.{arith}
 use native.Mathlib.Decide.{decLt}
@@ -32,18 +32,11 @@ use Rattle.buffers.proofs.Exact.{sound-inside}
 use Rattle.queue.proofs.BookLaws.{describes, shaped}
 use Rattle.demands.specs.Histories.{Call, Made, accepted, History, since, links, putIn, takenOut, inserts, takes, times, StillHeld}
 use Rattle.demands.specs.Exact.{Enough, WorkEnough, Sound, Answers, no-place, full, insert-done, take-done, look-done, held-done, audit-done, none-to-take, none-to-see}
-use Rattle.demands.proofs.CallLaws.{timesHeld, held-word}
+use Rattle.demands.proofs.CallLaws.{truth, unlike, timesHeld, held-word}
 use Rattle.demands.proofs.HistoryLaws.{stands}
 use Rattle.demands.proofs.BoundLaws.{of-four}
 use Rattle.demands.proofs.SmallestLaws.{times-held, number-held}
 use Rattle.demands.proofs.ExactLaws.{exactly}
-
-truth : (b : Bool) → T b → b ≡ true
-truth true t = refl
-truth false t = absurd t
-
-unlike : true ≡ false → ⊥
-unlike e = subst T e tt
 
 -- ---- any call on any array
 

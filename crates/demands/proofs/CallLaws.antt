@@ -1,7 +1,7 @@
 -- One call, of the rules: what it brings in and hands out is all that changes in what is held.
 use Prim.Native.Nat.{ℕ, _+_, _≤_, _<_}
 use mathlib.Core.Path.{_≡_, refl, sym, ap, subst}
-use mathlib.Core.Bool.{false}
+use mathlib.Core.Bool.{Bool, true, false}
 use mathlib.Core.List.{List, [], _∷_}
 use native.Mathlib.Omega.{arith}
 use borrow.Author.Tests.{eq-eqb}
@@ -29,7 +29,22 @@ use Rattle.rules.proofs.BookKept.{beside-tree, fresh-empty, fresh-held}
 use Rattle.rules.proofs.InsertLaws.{inserted-keeps, inserted-links}
 use Rattle.rules.proofs.Accepted.{Refusal, take-cases, look-cases, setup-cases, insert-call-cases, held-cases, audit-cases}
 use Rattle.rules.proofs.History.{Fine}
-use Rattle.demands.specs.Histories.{isSetup, brought, handed}
+use Rattle.demands.specs.Histories.{isSetup, brought, handed, once}
+
+-- ---- tests
+
+pub truth : (b : Bool) → T b → b ≡ true
+truth true t = refl
+truth false t = absurd t
+
+pub unlike : true ≡ false → ⊥
+unlike e = subst T e tt
+
+pub once-is : (b : Bool) → once b ≡ oneIf b
+once-is true = refl
+once-is false = refl
+
+-- ---- what is held
 
 -- a refusal is not an accepted call
 refused-not : (answer : Answer) (q : Queue) → Refusal answer → T (isDone (refused answer q .answer)) → ⊥

@@ -31,7 +31,7 @@ use Rattle.buffers.proofs.Exact.{sound-inside}
 use Rattle.queue.proofs.BookLaws.{describes, shaped}
 use Rattle.demands.specs.Histories.{Call, Made}
 use Rattle.demands.proofs.BoundLaws.{of-four, one-to-four}
-use Rattle.demands.proofs.CallLaws.{setup-steps}
+use Rattle.demands.proofs.CallLaws.{truth, setup-steps}
 
 -- ---- what is owed
 
@@ -122,10 +122,6 @@ module _ (ws : List ℕ) where
   refused-few : (answer : Answer) → Refusal answer → Few (refused answer (queueOf a))
   unfolding refused
   refused-few answer r = omega arith
-
-  truth : (b : Bool) → T b → b ≡ true
-  truth true t = refl
-  truth false t = absurd t
 
   shape-of : Long a → T (sound (bookOf ws)) → Shaped (queueOf a)
   unfolding lentOf bookOf

@@ -22,7 +22,7 @@ use Rattle.rules.proofs.SinceCalls as rules
 use Rattle.buffers.specs.Format.{bookOf, lentOf}
 use Rattle.queue.specs.Calls.{Called}
 use Rattle.demands.specs.Histories.{Call, Made, accepted, isSetup, linksOf, begins, History, first, next, since, links, brought, handed, ifDone, putIn, takenOut, once, packings, steps}
-use Rattle.demands.proofs.CallLaws.{weightOf, moves, refusal-plain, setup-begun, fresh-weight}
+use Rattle.demands.proofs.CallLaws.{once-is, weightOf, moves, refusal-plain, setup-begun, fresh-weight}
 
 -- an array set up with so many links, in which these entries were put and from which these were taken, with so many packings and merge steps
 pub record Stands (l : ℕ) (ins outs : List ℕ) (p t : ℕ) (ws : List ℕ) : Type 0 where
@@ -80,10 +80,6 @@ counted order o ins = go order (isDone (o .answer)) refl
     go heldNow false e = omega arith
     go auditIt true e = omega arith
     go auditIt false e = omega arith
-
-once-is : (b : Bool) → oneIf b ≡ once b
-once-is true = refl
-once-is false = refl
 
 carried : {l n n′ p p′ t t′ : ℕ} {q q′ : Queue} → n ≡ n′ → p ≡ p′ → t ≡ t′ → q ≡ q′ → Since l n p t q → Since l n′ p′ t′ q′
 carried {l} {n} {n′} {p} {p′} {t} {t′} {q} {q′} en ep et eq h =

@@ -1,17 +1,14 @@
 -- Any sequence of calls with an accepted setup in it is a history from its last accepted setup on.
 use Prim.Native.Nat.{ℕ}
-use mathlib.Core.Path.{_≡_, refl, sym, ap, _∙_, subst}
+use mathlib.Core.Path.{_≡_, refl, sym, ap, _∙_}
 use mathlib.Core.Bool.{Bool, true, false}
 use mathlib.Core.List.{List, [], _∷_}
-use lib.Dec.{T}
 use Rattle.rules.specs.Tests.{_or_}
 use Rattle.demands.specs.Histories.{Call, begins, linksOf, History, first, next, since, links, Sequence, none, more, hasSetup, fromSetup}
-
-unlike : false ≡ true → ⊥
-unlike e = subst T (sym e) tt
+use Rattle.demands.proofs.CallLaws.{unlike}
 
 pub from-setup : {ws ws′ : List ℕ} {cs : List Call} → Sequence ws cs ws′ → hasSetup cs ≡ true → History (fromSetup cs) ws′
-from-setup none e = absurd (unlike e)
+from-setup none e = absurd (unlike (sym e))
 from-setup (more ws₁ ws₂ c cs before made) e = go (begins c) refl e (from-setup before)
   where
     go : (b : Bool) → begins c ≡ b → (b or hasSetup cs) ≡ true → (hasSetup cs ≡ true → History (fromSetup cs) ws₁)

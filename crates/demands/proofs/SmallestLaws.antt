@@ -16,8 +16,8 @@ use Rattle.rules.proofs.Weight.{sumOf-ones, oneIf, timesOf}
 use Rattle.rules.proofs.EntryOrder.{Earlier, earlier-smaller}
 use Rattle.rules.proofs.History.{since-fine, since-ordered}
 use Rattle.buffers.specs.Format.{lentOf}
-use Rattle.demands.specs.Histories.{Call, Made, accepted, isSetup, begins, History, first, next, since, links, brought, handed, ifDone, putIn, takenOut, once, times, StillHeld, Smallest}
-use Rattle.demands.proofs.CallLaws.{held-is, timesHeld, LeastHeld, least-taken, least-seen}
+use Rattle.demands.specs.Histories.{Call, Made, accepted, isSetup, begins, History, first, next, since, links, brought, handed, ifDone, putIn, takenOut, times, StillHeld, Smallest}
+use Rattle.demands.proofs.CallLaws.{unlike, once-is, held-is, timesHeld, LeastHeld, least-taken, least-seen}
 use Rattle.demands.proofs.HistoryLaws.{stands}
 
 -- ---- a call in a history
@@ -37,9 +37,6 @@ tailOf : List Call → List Call
 tailOf [] = []
 tailOf (c ∷ cs) = cs
 
-unlike : true ≡ false → ⊥
-unlike e = subst T e tt
-
 not-empty : (later : List Call) (c : Call) (earlier : List Call) → [] ≡ later ++ c ∷ earlier → ⊥
 not-empty [] c earlier e = let l : 0 ≡ suc (length earlier) = ap length e in omega arith
 not-empty (d ∷ later) c earlier e = let l : 0 ≡ suc (length (later ++ c ∷ earlier)) = ap length e in omega arith
@@ -57,10 +54,6 @@ pub before : {ws : List ℕ} (later : List Call) (c : Call) (earlier : List Call
 before later c earlier h n = find h later c earlier refl n
 
 -- ---- how often an entry is held
-
-once-is : (b : Bool) → once b ≡ oneIf b
-once-is true = refl
-once-is false = refl
 
 times-is : (v : ℕ) (es : List ℕ) → times v es ≡ timesOf v es
 times-is v [] = refl
