@@ -200,56 +200,33 @@ module _ (work : ℕ) (a : Lent) where
       (λ holds. broken order refl enough room holds))
       (λ w. work-short entry enough (leb-false H work w)))
 
-  says-take : Says takeIt (firstFailing (checksOf work takeIt a))
-  unfolding checksOf firstFailing insertChecks takeChecks queueOf
-  says-take =
-      let last = (ltb 0 count else NoneHeld) ∷ [] in
-      by-array a ((sound (a .book) else BookBroken) ∷ last) work takeIt refl (λ enough.
-      by-check BookBroken last (Says takeIt) (sound (a .book))
-      (λ holds. let so : Sound work takeIt a = record { enough = enough; work-enough = tt; holds = holds } in
-      by-check NoneHeld [] (Says takeIt) (ltb 0 count)
-      (λ some. take-done so (ltb-true 0 count some))
-      (λ some. none-to-take so (omega (arith, ltb-false 0 count some))))
-      (λ holds. broken takeIt refl enough tt holds))
+  -- the calls without a work area: the book's check, and those behind it
+  by-book : (order : Order) → isSetup order ≡ false → WorkEnough work order a → (behind : List Check) → (Sound work order a → Says order (firstFailing behind))
+      → Says order (firstFailing (arrayChecks a ((sound (a .book) else BookBroken) ∷ behind)))
+  by-book order other room behind further =
+      by-array a ((sound (a .book) else BookBroken) ∷ behind) work order other (λ enough.
+      by-check BookBroken behind (Says order) (sound (a .book))
+      (λ holds. further (record { enough = enough; work-enough = room; holds = holds }))
+      (λ holds. broken order other enough room holds))
 
-  says-look : Says lookAt (firstFailing (checksOf work lookAt a))
-  unfolding checksOf firstFailing insertChecks takeChecks queueOf
-  says-look =
-      let last = (ltb 0 count else NoneHeld) ∷ [] in
-      by-array a ((sound (a .book) else BookBroken) ∷ last) work lookAt refl (λ enough.
-      by-check BookBroken last (Says lookAt) (sound (a .book))
-      (λ holds. let so : Sound work lookAt a = record { enough = enough; work-enough = tt; holds = holds } in
-      by-check NoneHeld [] (Says lookAt) (ltb 0 count)
-      (λ some. look-done so (ltb-true 0 count some))
-      (λ some. none-to-see so (omega (arith, ltb-false 0 count some))))
-      (λ holds. broken lookAt refl enough tt holds))
-
-  says-held : Says heldNow (firstFailing (checksOf work heldNow a))
-  unfolding checksOf firstFailing insertChecks takeChecks queueOf
-  says-held =
-      by-array a ((sound (a .book) else BookBroken) ∷ []) work heldNow refl (λ enough.
-      by-check BookBroken [] (Says heldNow) (sound (a .book))
-      (λ holds. held-done (record { enough = enough; work-enough = tt; holds = holds }))
-      (λ holds. broken heldNow refl enough tt holds))
-
-  says-audit : Says auditIt (firstFailing (checksOf work auditIt a))
-  unfolding checksOf firstFailing insertChecks takeChecks queueOf
-  says-audit =
-      let order = inOrder (keyOf (queueOf a)) (treeOf (a .book .links)) (a .buffers) in
-      let last = (order else OrderBroken) ∷ [] in
-      by-array a ((sound (a .book) else BookBroken) ∷ last) work auditIt refl (λ enough.
-      by-check BookBroken last (Says auditIt) (sound (a .book))
-      (λ holds. let so : Sound work auditIt a = record { enough = enough; work-enough = tt; holds = holds } in
-      by-check OrderBroken [] (Says auditIt) order (λ e. audit-done so e) (λ e. disordered so e))
-      (λ holds. broken auditIt refl enough tt holds))
+  -- "take and look 4, 6"
+  by-held : (order : Order) → isSetup order ≡ false → WorkEnough work order a → (Sound work order a → 0 < count → Says order Done) → (Sound work order a → count ≡ 0 → Says order NoneHeld)
+      → Says order (firstFailing (takeChecks a))
+  unfolding takeChecks firstFailing
+  by-held order other room some none =
+      by-book order other room ((ltb 0 count else NoneHeld) ∷ []) (λ so.
+      by-check NoneHeld [] (Says order) (ltb 0 count) (λ e. some so (ltb-true 0 count e)) (λ e. none so (omega (arith, ltb-false 0 count e))))
 
   says : (order : Order) → Says order (firstFailing (checksOf work order a))
+  unfolding checksOf firstFailing
   says (setupOf l) = says-setup l
   says (insertOf entry) = says-insert entry
-  says takeIt = says-take
-  says lookAt = says-look
-  says heldNow = says-held
-  says auditIt = says-audit
+  says takeIt = by-held takeIt refl tt take-done none-to-take
+  says lookAt = by-held lookAt refl tt look-done none-to-see
+  says heldNow = by-book heldNow refl tt [] held-done
+  says auditIt =
+      let order = inOrder (keyOf (queueOf a)) (treeOf (a .book .links)) (a .buffers) in
+      by-book auditIt refl tt ((order else OrderBroken) ∷ []) (λ so. by-check OrderBroken [] (Says auditIt) order (audit-done so) (disordered so))
 
   -- ---- and no other
 

@@ -9,12 +9,14 @@ use lib.ListN.{length}
 use Rattle.rules.specs.Answers.{isDone}
 use Rattle.rules.specs.Entries.{wholeWord}
 use Rattle.rules.specs.Tests.{_and_}
-use Rattle.rules.specs.Queue.{Queue, held}
-use Rattle.rules.specs.Calls.{Lent, queueOf, take, look}
+use Rattle.rules.specs.Tree.{treeOf}
+use Rattle.rules.specs.Order.{inOrder}
+use Rattle.rules.specs.Queue.{Queue, keyOf, held}
+use Rattle.rules.specs.Calls.{Lent, queueOf}
 use Rattle.rules.specs.Examples.{Order, takeIt, lookAt, call}
 use Rattle.rules.proofs.Weight.{sumOf-ones, oneIf, timesOf}
 use Rattle.rules.proofs.EntryOrder.{Earlier, earlier-smaller}
-use Rattle.rules.proofs.History.{since-fine, since-ordered}
+use Rattle.rules.proofs.History.{Fine, since-fine, since-ordered}
 use Rattle.buffers.specs.Format.{lentOf}
 use Rattle.demands.specs.Histories.{Call, Made, accepted, isSetup, begins, History, first, next, since, links, brought, handed, ifDone, putIn, takenOut, times, StillHeld, Smallest}
 use Rattle.demands.proofs.CallLaws.{unlike, once-is, held-is, timesHeld, LeastHeld, least-taken, least-seen}
@@ -83,25 +85,28 @@ module _ {cs : List Call} {ws : List ℕ} (h : History cs ws) where
   abbrev a : Lent
   a = lentOf ws
 
-  pub smallest-taken : (c : Call) (ws′ : List ℕ) → Made ws c ws′ → c .order ≡ takeIt → accepted c ≡ true → Smallest (c .word) (since cs)
-  unfolding call
-  smallest-taken c ws′ made is done =
-      let s = stands h in
-      let fine = since-fine (links cs) (s .number) (s .goes) in
-      let ordered = since-ordered (links cs) (s .number) (s .goes) in
-      let same = ap (λ order. call (c .work) order a) is in
-      let d = subst T (sym done ∙ ap isDone (made .answer-is ∙ ap (λ o. o .answer) same)) tt in
-      subst (λ w. Smallest w (since cs)) (sym (made .word-is ∙ ap (λ o. o .word) same)) (smallest (take a .word) (least-taken a fine ordered d))
+  fine : Fine (links cs) q
+  fine = since-fine (links cs) (stands h .number) (stands h .goes)
 
-  pub smallest-seen : (c : Call) (ws′ : List ℕ) → Made ws c ws′ → c .order ≡ lookAt → accepted c ≡ true → Smallest (c .word) (since cs)
-  unfolding call
-  smallest-seen c ws′ made is done =
-      let s = stands h in
-      let fine = since-fine (links cs) (s .number) (s .goes) in
-      let ordered = since-ordered (links cs) (s .number) (s .goes) in
-      let same = ap (λ order. call (c .work) order a) is in
-      let d = subst T (sym done ∙ ap isDone (made .answer-is ∙ ap (λ o. o .answer) same)) tt in
-      subst (λ w. Smallest w (since cs)) (sym (made .word-is ∙ ap (λ o. o .word) same)) (smallest (look a .word) (least-seen a fine ordered d))
+  ordered : T (inOrder (keyOf q) (treeOf (q .links)) (q .buffers))
+  ordered = since-ordered (links cs) (stands h .number) (stands h .goes)
+
+  -- the next call
+  module _ (c : Call) (ws′ : List ℕ) (made : Made ws c ws′) where
+    shown : (order : Order) → c .order ≡ order → accepted c ≡ true → (T (isDone (call (c .work) order a .answer)) → LeastHeld q (call (c .work) order a .word)) → Smallest (c .word) (since cs)
+    shown order is done least =
+        let o = call (c .work) order a in
+        let same = ap (λ order. call (c .work) order a) is in
+        let d : T (isDone (o .answer)) = subst T (sym done ∙ ap isDone (made .answer-is ∙ ap (λ o. o .answer) same)) tt in
+        subst (λ w. Smallest w (since cs)) (sym (made .word-is ∙ ap (λ o. o .word) same)) (smallest (o .word) (least d))
+
+    pub smallest-taken : c .order ≡ takeIt → accepted c ≡ true → Smallest (c .word) (since cs)
+    unfolding call
+    smallest-taken is done = shown takeIt is done (least-taken a fine ordered)
+
+    pub smallest-seen : c .order ≡ lookAt → accepted c ≡ true → Smallest (c .word) (since cs)
+    unfolding call
+    smallest-seen is done = shown lookAt is done (least-seen a fine ordered)
 
 -- an order that is no setup begins nothing
 pub no-setup : (c : Call) (order : Order) → c .order ≡ order → isSetup order ≡ false → begins c ≡ false
