@@ -14,6 +14,7 @@ use Rattle.rules.proofs.EntryOrder.{Earlier}
 use Rattle.rules.proofs.History.{packings-bound}
 use Rattle.buffers.specs.Format.{linksIn, lentOf}
 use Rattle.queue.proofs.AgreeLaws.{Agree}
+use Rattle.tally.specs.Day.{nothing, plusEach}
 use Rattle.tally.specs.Sums.{Within}
 use Rattle.frames.specs.Orders.{Fits}
 use Rattle.frames.specs.declared.Order.{Order}
@@ -33,7 +34,7 @@ use Rattle.demands.proofs.SequenceLaws.{from-setup, since-same, links-s
 use Rattle.demands.proofs.AnswerLaws as answers
 use Rattle.demands.proofs.MadeLaws.{Nothing, refused-nothing, made-agree}
 use Rattle.demands.proofs.DigitLaws.{eight-digits}
-use Rattle.demands.proofs.TallyLaws.{history-made, since-made, tally-sums}
+use Rattle.demands.proofs.TallyLaws.{history-made, since-made, tallied, tally-sums}
 use Rattle.demands.proofs.FrameLaws.{Reads, Writes, read-back, write-back}
 
 -- ---- demand 1: a call c on any words ws, which left the words ws′
@@ -172,6 +173,10 @@ module _ {ws : List ℕ} (cs : List Call) (h : History cs ws) where
   -- "below the largest value, the tally's fields are the history's sums"
   pub tally-the-sums : Within (sums cs) → tallyAfter cs ≡ sums cs
   tally-the-sums = tally-sums cs (history-made h)
+
+  -- "A field that would pass its largest value becomes that value."
+  pub tally-up-to-the-largest : tallyAfter cs ≡ plusEach nothing (sums cs)
+  tally-up-to-the-largest = tallied cs (history-made h)
 
   -- a tally begun at the last accepted setup keeps demand 3's bound
   pub tally-bounded : Within (sums (since cs)) → let t = tallyAfter (since cs) in t .steps ≤ stepsBound (links cs) (t .inserts) (t .packings)
