@@ -4,6 +4,7 @@ pub mod BoundLaws
 pub mod SmallestLaws
 pub mod ExactLaws
 pub mod AnswerLaws
+pub mod NumberLaws
 pub mod SequenceLaws
 pub mod DigitLaws
 pub mod TallyLaws
