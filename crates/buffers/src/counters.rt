@@ -6,6 +6,7 @@ ghost use Rattle.buffers.specs.Format.{linksIn, counterIn};
 ghost use Rattle.buffers.specs.Post.{Inside};
 ghost use Rattle.buffers.specs.Counters.{HasCounter, CounterPut};
 
+
 // How many links the queue has, as its book says.
 pub fn links(a: &[u64]) -> u64
     requires { ⌜ 0 < length (now a) ⌝ }
