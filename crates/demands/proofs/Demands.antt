@@ -1,0 +1,183 @@
+-- The three demands and the day tally, side by side. What a call, a history and its sums are: specs/Histories.antt. Each function's contract is a call that was made: MadeLaws.
+use Prim.Native.Nat.{ℕ, _+_, _*_, _/_, _^_, _≤_, _<_}
+use mathlib.Core.Path.{_≡_, refl}
+use mathlib.Core.Logic.{_⊎_}
+use mathlib.Core.Bool.{true, false}
+use mathlib.Core.List.{List, [], _∷_, _++_}
+use lib.ListN.{length, getD, take, drop}
+use Rattle.rules.specs.declared.Answer.{Answer}
+use Rattle.rules.specs.declared.Answer.the-variants.{Done, NoneHeld, NoPlace}
+use Rattle.rules.specs.Entries.{door}
+use Rattle.rules.specs.Links.{s, most, words}
+use Rattle.rules.specs.Examples.{insertOf, takeIt, lookAt, heldNow, auditIt, call}
+use Rattle.rules.proofs.EntryOrder.{Earlier}
+use Rattle.rules.proofs.History.{packings-bound}
+use Rattle.buffers.specs.Format.{linksIn, lentOf}
+use Rattle.queue.proofs.AgreeLaws.{Agree}
+use Rattle.tally.specs.Day.{nothing, plusEach}
+use Rattle.tally.specs.Sums.{Within}
+use Rattle.frames.specs.Orders.{Fits}
+use Rattle.frames.specs.declared.Order.{Order}
+use Rattle.frames.specs.declared.ReadFrame.{ReadFrame}
+use Rattle.frames.specs.declared.ReadFrame.the-variants.{Order as Read}
+use Rattle.frames.specs.declared.Written.{Written}
+use Rattle.frames.specs.declared.Written.the-variants.{Bytes}
+use Rattle.demands.specs.Histories.{Call, Made, accepted, History, Sequence, hasSetup, fromSetup, since, links, putIn, takenOut, inserts, takes, packings, steps, times, StillHeld, Smallest}
+use Rattle.demands.specs.Exact.{Answers}
+use Rattle.demands.specs.Bounds.{stepsBound}
+use Rattle.demands.specs.Tallies.{tallyAfter, sums}
+use Rattle.demands.proofs.HistoryLaws.{stands}
+use Rattle.demands.proofs.BoundLaws.{few-steps, four-rows, one-to-four}
+use Rattle.demands.proofs.SmallestLaws as smallest
+use Rattle.demands.proofs.SmallestLaws.{before, no-setup}
+use Rattle.demands.proofs.SequenceLaws.{from-setup, since-same, links-same}
+use Rattle.demands.proofs.AnswerLaws as answers
+use Rattle.demands.proofs.MadeLaws.{Nothing, refused-nothing, made-agree}
+use Rattle.demands.proofs.DigitLaws.{eight-digits}
+use Rattle.demands.proofs.TallyLaws.{history-made, since-made, tallied, tally-sums}
+use Rattle.demands.proofs.FrameLaws.{Reads, Writes, read-back, write-back}
+
+-- ---- demand 1: a call c on any words ws, which left the words ws′
+
+module _ (ws ws′ : List ℕ) (c : Call) (made : Made ws c ws′) where
+  -- "every call .. stays inside the lent memory": "Words past the stated length are never touched."
+  pub inside-the-lent : (length ws′ ≡ length ws) × ((p : ℕ) → words (linksIn ws′) ≤ p → getD ws′ p 0 ≡ getD ws p 0)
+  inside-the-lent = (made .long, made .past)
+
+  -- "each refusal exactly when the document says": the table of numbers is `Answers`
+  pub each-answer-exactly : (r : Answer) → (c .answer ≡ r → Answers (c .work) (lentOf ws) (c .order) r) × (Answers (c .work) (lentOf ws) (c .order) r → c .answer ≡ r)
+  each-answer-exactly = answers.made-exactly ws ws′ c made
+
+  -- 8 | "insert: rest of a sweep longer than s(i), or of a packing longer than H": never
+  pub eight-never : c .answer ≡ NoPlace → ⊥
+  eight-never = answers.never-eight ws ws′ c made
+
+  -- "a refusal changes nothing"
+  pub refusal-changes-nothing : accepted c ≡ false → Nothing ws ws′ c
+  refusal-changes-nothing = refused-nothing ws ws′ c made
+
+-- "two outcomes meeting it agree"
+pub outcomes-agree : (ws ws₁ ws₂ : List ℕ) (c d : Call) → c .order ≡ d .order → c .work ≡ d .work → Made ws c ws₁ → Made ws d ws₂
+    → Agree ws₁ ws₂ (c .answer) (d .answer) (c .word) (d .word) (c .steps) (d .steps) (c .packed) (d .packed)
+outcomes-agree = made-agree
+
+-- ---- demand 2: a call c in a history, after the calls `earlier` and before the calls `later`
+
+module _ {ws : List ℕ} (later : List Call) (c : Call) (earlier : List Call) (h : History (later ++ c ∷ earlier) ws) where
+  -- "After the last accepted setup, each take hands out the smallest entry put in and still held"
+  pub each-take-the-smallest : c .order ≡ takeIt → accepted c ≡ true → Smallest (c .word) (since earlier)
+  each-take-the-smallest is done = let b = before later c earlier h (no-setup c takeIt is refl) in smallest.smallest-taken (b .history) c (b .ws′) (b .made) is done
+
+  -- "due tick, then door, then command": none still held comes before it
+  pub each-take-the-earliest : c .order ≡ takeIt → accepted c ≡ true → (v : ℕ) → StillHeld v (since earlier) → Earlier v (c .word) → ⊥
+  each-take-the-earliest is done = smallest.none-earlier (c .word) (since earlier) (each-take-the-smallest is done)
+
+  -- "Look does the same and removes nothing."
+  pub each-look-the-smallest : c .order ≡ lookAt → accepted c ≡ true → Smallest (c .word) (since earlier)
+  each-look-the-smallest is done = let b = before later c earlier h (no-setup c lookAt is refl) in smallest.smallest-seen (b .history) c (b .ws′) (b .made) is done
+
+  -- a queue that refuses everything is shut out: while something is still held, takes and looks are accepted
+  pub each-take-accepted : c .order ≡ takeIt → (v : ℕ) → StillHeld v (since earlier) → c .answer ≡ Done
+  each-take-accepted is = let b = before later c earlier h (no-setup c takeIt is refl) in answers.take-accepted (b .history) (b .ws′) c (b .made) is
+
+  pub each-look-accepted : c .order ≡ lookAt → (v : ℕ) → StillHeld v (since earlier) → c .answer ≡ Done
+  each-look-accepted is = let b = before later c earlier h (no-setup c lookAt is refl) in answers.look-accepted (b .history) (b .ws′) c (b .made) is
+
+  -- and so is an insert with its work area and a known door while fewer than H are held
+  pub each-insert-accepted : (e : ℕ) → c .order ≡ insertOf e → most (links earlier) ≤ c .work → door e ≤ 2 → inserts (since earlier) < takes (since earlier) + most (links earlier) → c .answer ≡ Done
+  each-insert-accepted e is = let b = before later c earlier h (no-setup c (insertOf e) is refl) in answers.insert-accepted (b .history) (b .ws′) c (b .made) e is
+
+  -- it is refused for no other reason
+  pub refused-insert-why : (e : ℕ) → c .order ≡ insertOf e → accepted c ≡ false
+      → (c .work < most (links earlier)) ⊎ (2 < door e) ⊎ (inserts (since earlier) ≡ takes (since earlier) + most (links earlier))
+  refused-insert-why e is = let b = before later c earlier h (no-setup c (insertOf e) is refl) in answers.refused-insert (b .history) (b .ws′) c (b .made) e is
+
+  -- "once the queue is empty, exactly as often": a take is refused only then, and with 6
+  pub refused-take-empty : c .order ≡ takeIt → accepted c ≡ false → (c .answer ≡ NoneHeld) × ((v : ℕ) → times v (takenOut (since earlier)) ≡ times v (putIn (since earlier)))
+  refused-take-empty is = let b = before later c earlier h (no-setup c takeIt is refl) in answers.refused-empty (b .history) (b .ws′) c (b .made) is
+
+  -- "held gives the count": of those put in and not handed out
+  pub each-held-the-count : c .order ≡ heldNow → (c .answer ≡ Done) × (takes (since earlier) + c .word ≡ inserts (since earlier))
+  each-held-the-count is = let b = before later c earlier h (no-setup c heldNow is refl) in answers.held-counts (b .history) (b .ws′) c (b .made) is
+
+  -- the order rule is never broken
+  pub each-audit-done : c .order ≡ auditIt → c .answer ≡ Done
+  each-audit-done is = let b = before later c earlier h (no-setup c auditIt is refl) in answers.audit-done-now (b .history) (b .ws′) c (b .made) is
+
+-- a take hands out what a look just before it has shown
+pub take-after-look : {ws : List ℕ} (later : List Call) (c d : Call) (earlier : List Call) → History (later ++ c ∷ d ∷ earlier) ws
+    → c .order ≡ takeIt → accepted c ≡ true → d .order ≡ lookAt → accepted d ≡ true → c .word ≡ d .word
+take-after-look later c d earlier h takes-it done looks seen =
+    let b = before later c (d ∷ earlier) h (no-setup c takeIt takes-it refl) in
+    smallest.taken-as-seen c d earlier looks (each-take-the-smallest later c (d ∷ earlier) h takes-it done) (each-look-the-smallest [] d earlier (b .history) looks seen)
+
+-- "any sequence of calls on one array": where an accepted setup is among them, it is a history from the last one on, with the same calls and links since
+pub sequences-are-histories : {ws ws′ : List ℕ} (cs : List Call) → Sequence ws cs ws′ → hasSetup cs ≡ true
+    → History (fromSetup cs) ws′ × (since (fromSetup cs) ≡ since cs) × (links (fromSetup cs) ≡ links cs)
+sequences-are-histories cs calls has = (from-setup calls has, since-same cs, links-same cs)
+
+-- at the end of any history
+module _ {ws : List ℕ} (cs : List Call) (h : History cs ws) where
+  -- "no entry comes out more often than it was put in"
+  pub out-no-more-than-in : (v : ℕ) → times v (takenOut (since cs)) ≤ times v (putIn (since cs))
+  out-no-more-than-in = smallest.no-more h
+
+  -- "once the queue is empty, exactly as often"
+  pub out-exactly-as-in : takes (since cs) ≡ inserts (since cs) → (v : ℕ) → times v (takenOut (since cs)) ≡ times v (putIn (since cs))
+  out-exactly-as-in = answers.all-out h
+
+  -- "holds at most H = k(L) x s(L) entries"
+  pub held-at-most : inserts (since cs) ≤ takes (since cs) + most (links cs)
+  held-at-most = answers.at-most h
+
+-- "A frame written and read again is the same frame, and the reverse."
+pub frame-read-again : (o : Order) (out out′ : List ℕ) (n : ℕ) (r : ReadFrame) → Fits o → Writes o out out′ (Bytes n) → Reads (take n out′) r → r ≡ Read o
+frame-read-again = read-back
+
+pub frame-written-again : (line : List ℕ) (o : Order) (out out′ : List ℕ) (r : Written) → Reads line (Read o) → length line ≤ length out → Writes o out out′ r
+    → (r ≡ Bytes (length line)) × (out′ ≡ line ++ drop (length line) out)
+frame-written-again = write-back
+
+-- ---- demand 3
+
+-- "the steps that each call reports are those of the rules"
+pub steps-of-the-rules : (ws ws′ : List ℕ) (c : Call) → Made ws c ws′ → c .steps ≡ call (c .work) (c .order) (lentOf ws) .steps
+steps-of-the-rules ws ws′ c made = made .steps-are
+
+-- "steps, 8": on any array they have at most eight hexadecimal digits
+pub steps-eight-digits : (ws ws′ : List ℕ) (c : Call) → Made ws c ws′ → c .steps < 16 ^ 8
+steps-eight-digits ws ws′ c made = eight-digits ws ws′ c made
+
+module _ {ws : List ℕ} (cs : List Call) (h : History cs ws) where
+  -- "in any history with n accepted inserts and P packings the steps total at most ..": one theorem over the number of links
+  pub steps-bounded : steps (since cs) ≤ stepsBound (links cs) (inserts (since cs)) (packings (since cs))
+  steps-bounded = few-steps (links cs) (stands h .number) (stands h .goes)
+
+  -- ".. 2n + 32P, 6n + 384P, 13n + 5,760P, 22n + 138,240P for one to four links"
+  pub steps-by-rows : let n = inserts (since cs) in
+      let p = packings (since cs) in
+      let t = steps (since cs) in
+      (links cs ≡ 1 → t ≤ 2 * n + 32 * p) × (links cs ≡ 2 → t ≤ 6 * n + 384 * p) × (links cs ≡ 3 → t ≤ 13 * n + 5760 * p) × (links cs ≡ 4 → t ≤ 22 * n + 138240 * p)
+  steps-by-rows = four-rows (links cs) (inserts (since cs)) (packings (since cs)) (steps (since cs)) steps-bounded
+
+  -- and there are no other links: "link number 1 to 4"
+  pub one-to-four-links : (1 ≤ links cs) × (links cs ≤ 4)
+  one-to-four-links = one-to-four (links cs) (stands h .number)
+
+  -- "P is at most n divided by s(L), rounded down"
+  pub packings-few : packings (since cs) ≤ inserts (since cs) / s (links cs)
+  packings-few = packings-bound (links cs) (stands h .number) (stands h .goes)
+
+  -- ---- the day tally
+
+  -- "below the largest value, the tally's fields are the history's sums"
+  pub tally-the-sums : Within (sums cs) → tallyAfter cs ≡ sums cs
+  tally-the-sums = tally-sums cs (history-made h)
+
+  -- "A field that would pass its largest value becomes that value."
+  pub tally-up-to-the-largest : tallyAfter cs ≡ plusEach nothing (sums cs)
+  tally-up-to-the-largest = tallied cs (history-made h)
+
+  -- a tally begun at the last accepted setup keeps demand 3's bound
+  pub tally-bounded : Within (sums (since cs)) → let t = tallyAfter (since cs) in t .steps ≤ stepsBound (links cs) (t .inserts) (t .packings)
+  tally-bounded w = rw (tally-sums (since cs) (since-made cs (history-made h)) w) steps-bounded

@@ -1,0 +1,13 @@
+pub mod CallLaws
+pub mod HistoryLaws
+pub mod BoundLaws
+pub mod SmallestLaws
+pub mod ExactLaws
+pub mod AnswerLaws
+pub mod NumberLaws
+pub mod SequenceLaws
+pub mod DigitLaws
+pub mod TallyLaws
+pub mod FrameLaws
+pub mod MadeLaws
+pub mod Demands

@@ -1,0 +1,1 @@
+// The three demands, as theorems over histories of calls: specs/ and proofs/. There is nothing to run here.
