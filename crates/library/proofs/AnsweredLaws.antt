@@ -7,7 +7,9 @@ use Rattle.rules.specs.declared.Answer.{Answer}
 use Rattle.rules.specs.Answers.{isDone, numberOf}
 use Rattle.rules.specs.Calls as rules
 use Rattle.queue.specs.Calls.{Called}
-use Rattle.library.specs.Answered.{Answered}
+use Rattle.queue.specs.Room.{WorkKept}
+use Rattle.queue.proofs.CallLaws.{not-done}
+use Rattle.library.specs.Answered.{Answered, WorkLeft}
 
 pub answered : (ws ws′ : List ℕ) (o : rules.Outcome) (answer : Answer) (number word steps : ℕ) (packed : Bool)
     → Called ws ws′ o answer word steps packed → number ≡ numberOf answer → Answered ws ws′ o number word steps
@@ -20,3 +22,6 @@ answered ws ws′ o answer number word steps packed called number-of = record {
   queue-is = λ yes. called .queue-is (ap isDone (called .answer-is) ∙ yes);
   sound-is = λ yes. called .sound-is (ap isDone (called .answer-is) ∙ yes);
 }
+
+pub work-left : (links : ℕ) (answer : Answer) (number : ℕ) (work work′ : List ℕ) → WorkKept links answer work work′ → number ≡ numberOf answer → WorkLeft links number work work′
+work-left links answer number work work′ z n = record { past = z .past; refused = λ differ. z .refused (not-done answer (λ e. differ (n ∙ e))) }

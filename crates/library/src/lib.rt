@@ -5,8 +5,9 @@ ghost use lib.ListN.{length};
 ghost use Rattle.rules.specs.Tests.{_and_};
 ghost use Rattle.rules.specs.Book.{sound};
 ghost use Rattle.rules.specs.Calls as rules;
-ghost use Rattle.buffers.specs.Format.{bookOf, lentOf};
-ghost use Rattle.library.specs.Answered.{Answered};
+ghost use Rattle.buffers.specs.Format.{linksIn, bookOf, lentOf};
+ghost use Rattle.queue.specs.Calls.{SlotsKept};
+ghost use Rattle.library.specs.Answered.{Answered, WorkLeft};
 
 // Whether the array has a book and the book keeps every book rule.
 #[no_mangle]
@@ -28,11 +29,34 @@ pub extern "C" fn gorgalhut_setup(
     steps: &mut u64,
 ) -> u8
     ensures { λ r. ⌜ Answered (now (array .entry)) (now (array .exit)) (rules.setup links (lentOf (now (array .entry)))) r (now (word .exit)) (now (steps .exit)) ⌝ }
+    ensures { λ r. ⌜ SlotsKept (now (array .entry)) (now (array .exit)) ⌝ }
 {
     let made = queue::setup(array, links);
     *word = made.word;
     *steps = made.steps;
     let answer = made.answer;
+    rules::number_of(answer)
+}
+
+// Puts an entry in, with a work area; `packed` says whether it packed.
+#[no_mangle]
+pub extern "C" fn gorgalhut_insert(
+    array: &mut [u64],
+    work: &mut [u64],
+    entry: u64,
+    word: &mut u64,
+    steps: &mut u64,
+    packed: &mut bool,
+) -> u8
+    ensures { λ r. ⌜ Answered (now (array .entry)) (now (array .exit)) (rules.insert (length (now (work .entry))) entry (lentOf (now (array .entry)))) r (now (word .exit)) (now (steps .exit)) ⌝ }
+    ensures { λ r. ⌜ now (packed .exit) ≡ rules.insert (length (now (work .entry))) entry (lentOf (now (array .entry))) .packed ⌝ }
+    ensures { λ r. ⌜ WorkLeft (linksIn (now (array .entry))) r (now (work .entry)) (now (work .exit)) ⌝ }
+{
+    let put = queue::insert(array, work, entry);
+    *word = put.word;
+    *steps = put.steps;
+    *packed = put.packed;
+    let answer = put.answer;
     rules::number_of(answer)
 }
 

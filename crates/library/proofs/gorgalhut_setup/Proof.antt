@@ -14,7 +14,7 @@ same-length : tie.Need-same-length
 same-length c = search needs
 
 returns : tie.Need-returns
-returns c = answered _ _ _ _ _ _ _ _ (c .before .before .before .setup .ensures .0) (c .number-of .ensures)
+returns c = (answered _ _ _ _ _ _ _ _ (c .before .before .before .setup .ensures .0) (c .number-of .ensures), c .before .before .before .setup .ensures .1)
 
 pub gorgalhut-setup-spec : {M : Type 1} → statement M
 gorgalhut-setup-spec = tie.close (tie.spec setup-requires number-of-requires same-length returns)
