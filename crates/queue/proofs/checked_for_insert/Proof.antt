@@ -132,6 +132,7 @@ returns-8 c =
     let m = c .before .before .before .before .before .before .before .before .most .ensures ∙ ap most (c .before .before .before .before .before .before .before .before .before .at2 .ensures ∙ l) in
     let b = c .before .before .before .before .before .before .book-sound .ensures in
     let h = c .before .most2 .ensures ∙ ap most (c .before .before .at3 .ensures ∙ l) in
+    let few = c .before .before .before .held-now .ensures ∙ ap (λ l. heldFrom 0 (bufferCount l) (buffersOf (z .args .a .now))) l in
     insert-done (z .args .a .now) (z .args .work) (z .args .entry)
     (omega (arith, c .before .before .before .before .before .before .before .before .before .before .before .before .before .before .before .before .if1 .left))
     (omega (arith, l, c .before .before .before .before .before .before .before .before .before .before .before .before .before .before .if2 .left))
@@ -140,7 +141,7 @@ returns-8 c =
     (omega (arith, m, c .before .before .before .before .before .before .before .if5 .left))
     (sym b ∙ not-false _ (c .before .before .before .before .before .if6 .left))
     (omega (arith, c .before .before .before .before .if7 .left))
-    _ (c .before .before .before .held-now .ensures ∙ ap (λ l. heldFrom 0 (bufferCount l) (buffersOf (z .args .a .now))) l)
+    _ few
     (omega (arith, h, c .if8 .taken))
 
 returns-9 : tie.Need-returns-9
@@ -150,7 +151,8 @@ returns-9 c =
     let w = c .before .before .before .before .before .before .before .before .before .before .before .words .ensures ∙ ap words (c .before .before .before .before .before .before .before .before .before .before .before .before .at .ensures ∙ l) in
     let m = c .before .before .before .before .before .before .before .before .most .ensures ∙ ap most (c .before .before .before .before .before .before .before .before .before .at2 .ensures ∙ l) in
     let b = c .before .before .before .before .before .before .book-sound .ensures in
-    let h = c .before .most2 .ensures ∙ ap most (c .before .before .at3 .ensures ∙ l) in
+    let g = c .before .most2 .ensures ∙ ap most (c .before .before .at3 .ensures ∙ l) in
+    let all = c .before .before .before .held-now .ensures ∙ ap (λ l. heldFrom 0 (bufferCount l) (buffersOf (z .args .a .now))) l in
     insert-full (z .args .a .now) (z .args .work) (z .args .entry)
     (omega (arith, c .before .before .before .before .before .before .before .before .before .before .before .before .before .before .before .before .if1 .left))
     (omega (arith, l, c .before .before .before .before .before .before .before .before .before .before .before .before .before .before .if2 .left))
@@ -159,8 +161,8 @@ returns-9 c =
     (omega (arith, m, c .before .before .before .before .before .before .before .if5 .left))
     (sym b ∙ not-false _ (c .before .before .before .before .before .if6 .left))
     (omega (arith, c .before .before .before .before .if7 .left))
-    _ (c .before .before .before .held-now .ensures ∙ ap (λ l. heldFrom 0 (bufferCount l) (buffersOf (z .args .a .now))) l)
-    (omega (arith, h, c .if8 .left))
+    _ all
+    (omega (arith, g, c .if8 .left))
 
 pub checked-for-insert-spec : {M : Type 1} → statement M
 checked-for-insert-spec =
