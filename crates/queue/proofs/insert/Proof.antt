@@ -60,13 +60,13 @@ same-length-3 c = search needs
 returns-2 : tie.Need-returns-2
 returns-2 c =
     let ma = c .before .before .before .before in
-    let pl = ma .before .before .before .before .before in
-    let el = pl .before .before in
-    let no = el .before in
+    let put = ma .before .before .before .before .before in
+    let done = put .before .before in
+    let no = done .before in
     let ch = no .before in
     let st = ch .before .before .before .before in (
-      insert-called (st .args .a .now) (st .args .work .now) (st .args .entry) (ch .checked-for-insert .result) (ch .checked-for-insert .ensures) (sym (no .number-of .ensures) ∙ el .if1 .left) _ (pl .place-entry .ensures .0) (pl .place-entry .ensures .1) _ _ _ _ (ma .make-room .ensures .0) (ma .make-room .ensures .1),
-      work-kept (st .args .a .now) (st .args .work .now) (st .args .entry) (ch .checked-for-insert .result) (ch .checked-for-insert .ensures) (sym (no .number-of .ensures) ∙ el .if1 .left) _ (pl .place-entry .ensures .0) (pl .place-entry .ensures .1) _ _ _ _ (ma .make-room .ensures .0) (ma .make-room .ensures .1),
+      insert-called (st .args .a .now) (st .args .work .now) (st .args .entry) (ch .checked-for-insert .result) (ch .checked-for-insert .ensures) (sym (no .number-of .ensures) ∙ done .if1 .left) _ (put .place-entry .ensures .0) (put .place-entry .ensures .1) _ _ _ _ (ma .make-room .ensures .0) (ma .make-room .ensures .1),
+      work-kept (st .args .a .now) (st .args .work .now) (st .args .entry) (ch .checked-for-insert .result) (ch .checked-for-insert .ensures) (sym (no .number-of .ensures) ∙ done .if1 .left) _ (put .place-entry .ensures .0) (put .place-entry .ensures .1) _ _ _ _ (ma .make-room .ensures .0) (ma .make-room .ensures .1),
     )
 
 pub insert-spec : {M : Type 1} → statement M
