@@ -1,4 +1,4 @@
-//! The book test on chosen and random sound books, and what counting the entries costs beside it.
+//! The book: what the next insert will do, and the book test on chosen and random sound books.
 
 use crate::library::{gorgalhut_book_sound, gorgalhut_held, gorgalhut_setup, memory};
 use crate::rng::Rng;
@@ -67,6 +67,12 @@ impl Link {
 /// The word of the first buffer of the link with number i, from 0 on.
 fn first(i: usize) -> usize {
     INSERTION + 1 + LINKS[..i].iter().map(|link| 2 * link.k).sum::<usize>()
+}
+
+/// Whether the next insert packs: I has seven, and every counter says that no S is free.
+pub fn packs_next(links: usize, array: &[u64]) -> bool {
+    let full = |(link, &counter): (&Link, &u64)| counter > link.k as u64;
+    array[INSERTION] % MARK == 7 && LINKS[..links].iter().zip(&array[1..]).all(full)
 }
 
 /// A count for a buffer: often none, often all, at most `room`.

@@ -1,5 +1,6 @@
 //! The queues that are compared.
 
+use crate::books::packs_next;
 use crate::library::{gorgalhut_insert, gorgalhut_setup, gorgalhut_take, memory};
 use std::cmp::Reverse;
 use std::collections::BinaryHeap;
@@ -11,6 +12,10 @@ pub trait Queue {
     fn put(&mut self, entry: u64);
     /// Takes the smallest entry out; one is held.
     fn take(&mut self) -> u64;
+    /// Whether the next put takes everything out and lays it in again.
+    fn packs_next(&self) -> bool {
+        false
+    }
 }
 
 /// The proved queue in memory of its own. Every call checks all it is lent, and its answer is looked at.
@@ -76,6 +81,10 @@ impl Queue for Gorgalhut {
         };
         assert_eq!(answer, 0, "a take was refused");
         word
+    }
+
+    fn packs_next(&self) -> bool {
+        packs_next(self.links, &self.array)
     }
 }
 

@@ -45,6 +45,23 @@ fn counted_put<Q: Queue>(queue: &mut Q, entry: u64) {
     queue.put(entry);
 }
 
+/// A put that is counted and packs: the counter tells apart what happens in here.
+#[inline(never)]
+fn packing_put<Q: Queue>(queue: &mut Q, entry: u64) {
+    counted_put(queue, entry);
+    // Something must stand behind the call, or it would be a jump.
+    std::hint::black_box(());
+}
+
+/// One put of either sort.
+fn put<Q: Queue>(queue: &mut Q, entry: u64) {
+    if queue.packs_next() {
+        packing_put(queue, entry);
+    } else {
+        counted_put(queue, entry);
+    }
+}
+
 /// A take that is counted.
 #[inline(never)]
 fn counted_take<Q: Queue>(queue: &mut Q) -> u64 {
@@ -66,7 +83,7 @@ pub fn hold(queue: &mut impl Queue, held: usize, rounds: usize, seed: u64) -> u6
     for _ in 0..rounds {
         let entry = counted_take(queue);
         orders.see(entry);
-        counted_put(queue, orders.after(entry >> 32, NEXT));
+        put(queue, orders.after(entry >> 32, NEXT));
     }
     orders.sum
 }
@@ -77,7 +94,7 @@ pub fn day(queue: &mut impl Queue, held: usize, rounds: usize, seed: u64) -> u64
     for _ in 0..rounds {
         queue.clear();
         for _ in 0..held {
-            counted_put(queue, orders.after(0, DAY));
+            put(queue, orders.after(0, DAY));
         }
         for _ in 0..held {
             let entry = counted_take(queue);
