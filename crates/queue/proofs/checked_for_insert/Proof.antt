@@ -1,10 +1,12 @@
--- `checked_for_insert` gives the first failing check of insert. In each case l, m and b say what the code has read as link number, as H and as the book's soundness.
-use mathlib.Core.Path.{sym, ap, _∙_}
+-- `checked_for_insert` gives the first failing check of insert.
+use mathlib.Core.Path.{_≡_, sym, ap, _∙_}
 use native.Mathlib.Omega.{arith}
 use borrow.Author.Tests.{not-true, not-false}
+use Rattle.rules.specs.Answers.{numberOf}
 use Rattle.rules.specs.Links.{most}
-use Rattle.queue.proofs.CheckLaws.{has-words, has-book, has-link, held-all}
-use Rattle.queue.proofs.InsertCheckLaws.{insert-array-fails, insert-work-short, insert-book-wrong, insert-inside, insert-door-above, insert-full, insert-done}
+use Rattle.buffers.specs.Format.{linksIn}
+use Rattle.queue.proofs.CheckLaws.{has-words, has-book, has-link}
+use Rattle.queue.proofs.InsertCheckLaws.{insert-array-fails, insert-work-short, insert-book-wrong, Right, insert-inside, insert-door-above, insert-full, insert-done}
 use borrow.Author.Needs.{needs}
 use Rattle.queue.proofs.checked_for_insert.Statement.{statement}
 use Rattle.queue.proofs.checked_for_insert.Tie as tie
@@ -23,15 +25,14 @@ returns c =
     let x = ch .array-checked in
     insert-array-fails (st .args .a .now) (st .args .work) (st .args .entry) (x .result) (x .ensures) (λ e. c .if1 .taken (no .number-of .ensures ∙ e))
 
+-- where none of the array's checks fails
+none : (c : tie.Else1) → numberOf (c .before .before .array-checked .result) ≡ 0
+none c = sym (c .before .number-of .ensures) ∙ c .if1 .left
+
 links-requires : tie.Need-links-requires
 links-requires c κs =
-    let el = c in
-    let no = el .before in
-    let ch = no .before in
-    let st = ch .before .before in
-    let x = ch .array-checked in
-    let none = sym (no .number-of .ensures) ∙ el .if1 .left in
-    has-words (st .args .a .now) (x .result) (x .ensures) none
+    let x = c .before .before in
+    has-words (x .before .before .args .a .now) (x .array-checked .result) (x .array-checked .ensures) (none c)
 
 at-requires : tie.Need-at-requires
 at-requires c κs = search needs
@@ -39,114 +40,77 @@ at-requires c κs = search needs
 most-requires : tie.Need-most-requires
 most-requires c κs =
     let el = c .before .before in
-    let no = el .before in
-    let ch = no .before in
-    let st = ch .before .before in
-    let x = ch .array-checked in
-    let none = sym (no .number-of .ensures) ∙ el .if1 .left in
+    let x = el .before .before in
     let i = c .at .ensures ∙ c .before .links .ensures in
-    rw i (has-link (st .args .a .now) (x .result) (x .ensures) none)
+    rw i (has-link (x .before .before .args .a .now) (x .array-checked .result) (x .array-checked .ensures) (none el))
+
+-- the H that was read
+most-is : (c : tie.After-most) → c .most .result ≡ most (linksIn (c .before .before .before .before .before .before .before .args .a .now))
+most-is c = c .most .ensures ∙ ap most (c .before .at .ensures ∙ c .before .before .links .ensures)
 
 returns-2 : tie.Need-returns-2
 returns-2 c =
-    let mo = c .before in
-    let el = mo .before .before .before in
-    let no = el .before in
-    let ch = no .before in
-    let st = ch .before .before in
-    let x = ch .array-checked in
-    let none = sym (no .number-of .ensures) ∙ el .if1 .left in
-    let l = mo .before .before .links .ensures in
-    let m = mo .most .ensures ∙ ap most (mo .before .at .ensures ∙ l) in
-    insert-work-short (st .args .a .now) (st .args .work) (st .args .entry) (x .result) (x .ensures) none (omega (arith, m, c .if2 .taken))
+    let el = c .before .before .before .before in
+    let x = el .before .before in
+    let st = x .before .before in
+    insert-work-short (st .args .a .now) (st .args .work) (st .args .entry) (x .array-checked .result) (x .array-checked .ensures) (none el) (omega (arith, most-is (c .before), c .if2 .taken))
 
 book-sound-requires : tie.Need-book-sound-requires
 book-sound-requires c κs =
     let el = c .before .before .before .before in
-    let no = el .before in
-    let ch = no .before in
-    let st = ch .before .before in
-    let x = ch .array-checked in
-    let none = sym (no .number-of .ensures) ∙ el .if1 .left in
-    has-book (st .args .a .now) (x .result) (x .ensures) none
+    let x = el .before .before in
+    has-book (x .before .before .args .a .now) (x .array-checked .result) (x .array-checked .ensures) (none el)
 
 returns-3 : tie.Need-returns-3
 returns-3 c =
     let bo = c .before in
     let mo = bo .before .before in
     let el = mo .before .before .before in
-    let no = el .before in
-    let ch = no .before in
-    let st = ch .before .before in
-    let x = ch .array-checked in
-    let none = sym (no .number-of .ensures) ∙ el .if1 .left in
-    let l = mo .before .before .links .ensures in
-    let m = mo .most .ensures ∙ ap most (mo .before .at .ensures ∙ l) in
-    insert-book-wrong (st .args .a .now) (st .args .work) (st .args .entry) (x .result) (x .ensures) none (omega (arith, m, bo .before .if2 .left)) (sym (bo .book-sound .ensures) ∙ not-true _ (c .if3 .taken))
+    let x = el .before .before in
+    let st = x .before .before in
+    insert-book-wrong (st .args .a .now) (st .args .work) (st .args .entry) (x .array-checked .result) (x .array-checked .ensures) (none el) (omega (arith, most-is mo, bo .before .if2 .left)) (sym (bo .book-sound .ensures) ∙ not-true _ (c .if3 .taken))
 
-returns-4 : tie.Need-returns-4
-returns-4 c =
-    let bo = c .before .before in
+abbrev start : tie.Else3 → tie.Start
+start c = c .before .before .before .before .before .before .before .before .before .before
+
+-- where the book is found sound
+known : (c : tie.Else3) → Right (start c .args .a .now) (start c .args .work) (c .before .before .before .before .before .links .result) (c .before .before .before .most .result)
+known c =
+    let bo = c .before in
     let mo = bo .before .before in
     let el = mo .before .before .before in
-    let no = el .before in
-    let ch = no .before in
-    let st = ch .before .before in
-    let x = ch .array-checked in
-    let none = sym (no .number-of .ensures) ∙ el .if1 .left in
-    let l = mo .before .before .links .ensures in
-    let m = mo .most .ensures ∙ ap most (mo .before .at .ensures ∙ l) in
-    let b = sym (bo .book-sound .ensures) ∙ not-false _ (c .before .if3 .left) in
-    insert-door-above (st .args .a .now) (st .args .work) (st .args .entry) (x .result) (x .ensures) none (omega (arith, m, bo .before .if2 .left)) b (c .if4 .taken)
+    let x = el .before .before .array-checked in
+    record {
+      answer = x .result;
+      answer-is = x .ensures;
+      none-fails = none el;
+      link-is = mo .before .before .links .ensures;
+      most-is = most-is mo;
+      room = omega (arith, bo .before .if2 .left);
+      right = sym (bo .book-sound .ensures) ∙ not-false _ (c .if3 .left);
+    }
+
+returns-4 : tie.Need-returns-4
+returns-4 c = insert-door-above (start (c .before) .args .a .now) (start (c .before) .args .work) (start (c .before) .args .entry) _ _ (known (c .before)) (c .if4 .taken)
 
 held-now-requires : tie.Need-held-now-requires
 held-now-requires c κs =
-    let bo = c .before .before in
-    let mo = bo .before .before in
-    let el = mo .before .before .before in
-    let no = el .before in
-    let ch = no .before in
-    let st = ch .before .before in
-    let x = ch .array-checked in
-    let none = sym (no .number-of .ensures) ∙ el .if1 .left in
-    let l = mo .before .before .links .ensures in
-    let m = mo .most .ensures ∙ ap most (mo .before .at .ensures ∙ l) in
-    let b = sym (bo .book-sound .ensures) ∙ not-false _ (c .before .if3 .left) in
-    (insert-inside (st .args .a .now) (st .args .work) (st .args .entry) (x .result) (x .ensures) none (omega (arith, m, bo .before .if2 .left)) b, omega (arith, l))
+    let k = known (c .before) in
+    (insert-inside (start (c .before) .args .a .now) (start (c .before) .args .work) (start (c .before) .args .entry) _ _ k, omega (arith, k .link-is))
 
 returns-5 : tie.Need-returns-5
 returns-5 c =
     let he = c .before in
-    let bo = he .before .before .before in
-    let mo = bo .before .before in
-    let el = mo .before .before .before in
-    let no = el .before in
-    let ch = no .before in
-    let st = ch .before .before in
-    let x = ch .array-checked in
-    let none = sym (no .number-of .ensures) ∙ el .if1 .left in
-    let l = mo .before .before .links .ensures in
-    let m = mo .most .ensures ∙ ap most (mo .before .at .ensures ∙ l) in
-    let b = sym (bo .book-sound .ensures) ∙ not-false _ (he .before .before .if3 .left) in
-    let all = held-all (st .args .a .now) _ _ l (he .held-now .ensures) in
-    insert-full (st .args .a .now) (st .args .work) (st .args .entry) (x .result) (x .ensures) none (omega (arith, m, bo .before .if2 .left)) b (omega (arith, he .before .if4 .left)) _ all (omega (arith, m, c .if5 .taken))
+    let fi = he .before in
+    let st = start (fi .before) in
+    insert-full (st .args .a .now) (st .args .work) (st .args .entry) _ _ (known (fi .before)) (omega (arith, fi .if4 .left)) _ (he .held-now .ensures) (omega (arith, c .if5 .taken))
 
 returns-6 : tie.Need-returns-6
 returns-6 c =
     let he = c .before in
-    let bo = he .before .before .before in
-    let mo = bo .before .before in
-    let el = mo .before .before .before in
-    let no = el .before in
-    let ch = no .before in
-    let st = ch .before .before in
-    let x = ch .array-checked in
-    let none = sym (no .number-of .ensures) ∙ el .if1 .left in
-    let l = mo .before .before .links .ensures in
-    let m = mo .most .ensures ∙ ap most (mo .before .at .ensures ∙ l) in
-    let b = sym (bo .book-sound .ensures) ∙ not-false _ (he .before .before .if3 .left) in
-    let all = held-all (st .args .a .now) _ _ l (he .held-now .ensures) in
-    insert-done (st .args .a .now) (st .args .work) (st .args .entry) (x .result) (x .ensures) none (omega (arith, m, bo .before .if2 .left)) b (omega (arith, he .before .if4 .left)) _ all (omega (arith, m, c .if5 .left))
+    let fi = he .before in
+    let st = start (fi .before) in
+    insert-done (st .args .a .now) (st .args .work) (st .args .entry) _ _ (known (fi .before)) (omega (arith, fi .if4 .left)) _ (he .held-now .ensures) (omega (arith, c .if5 .left))
 
 pub checked-for-insert-spec : {M : Type 1} → statement M
 checked-for-insert-spec =
