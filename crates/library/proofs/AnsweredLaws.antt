@@ -8,7 +8,7 @@ use Rattle.rules.specs.Answers.{isDone, numberOf}
 use Rattle.rules.specs.Calls as rules
 use Rattle.queue.specs.Calls.{Called}
 use Rattle.queue.specs.Room.{WorkKept}
-use Rattle.queue.proofs.CallLaws.{not-done}
+use Rattle.queue.proofs.CheckLaws.{not-done}
 use Rattle.library.specs.Answered.{Answered, WorkLeft}
 
 pub answered : (ws ws′ : List ℕ) (o : rules.Outcome) (answer : Answer) (number word steps : ℕ) (packed : Bool)

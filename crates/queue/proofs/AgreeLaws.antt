@@ -5,7 +5,6 @@ use mathlib.Core.Bool.{Bool, true, false}
 use mathlib.Core.List.{List}
 use Rattle.rules.specs.declared.Answer.{Answer}
 use Rattle.rules.specs.Answers.{isDone}
-use Rattle.rules.specs.Tree.{Buffers}
 use Rattle.rules.specs.Queue.{Queue}
 use Rattle.rules.specs.Calls as rules
 use Rattle.buffers.specs.Format.{lentOf, buffersOf}

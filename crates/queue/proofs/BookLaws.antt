@@ -1,18 +1,18 @@
 -- The array's book and the rules' queue: what a sound book gives a call, and why the book is sound after it.
 use Prim.Native.Nat.{ℕ, zero, suc, _+_, _-_, _*_, _≤_, _<_}
-use mathlib.Core.Path.{_≡_, refl, sym, ap, _∙_, subst}
+use mathlib.Core.Path.{_≡_, refl, sym, ap, _∙_}
 use mathlib.Core.Bool.{true}
-use mathlib.Core.List.{List, [], _∷_, map}
+use mathlib.Core.List.{List, [], map}
 use native.Mathlib.Omega.{arith}
 use native.Mathlib.Decide.{decLt}
 use borrow.Author.Tests.{eq-eqb, eqb-true}
 use lib.ListN.{length, getD, List·getD-eq-default}
-use Rattle.rules.specs.Links.{from, k, first, capacity, numberOfS, bufferCount, words, LinkNumber, InLink}
-use Rattle.rules.specs.Tree.{Buffers, Tree, exhausted, buffer, merger, treeOf, linksFrom}
+use Rattle.rules.specs.Links.{from, k, first, numberOfS, bufferCount, LinkNumber}
+use Rattle.rules.specs.Tree.{Tree, exhausted, buffer, merger, treeOf}
 use Rattle.rules.specs.Take.{heldIn}
 use Rattle.rules.specs.Queue.{Queue}
-use Rattle.rules.specs.Book.{Book, count, startPlace, marked, c, together, sound, plainBook}
-use Rattle.rules.specs.Calls.{Lent, queueOf}
+use Rattle.rules.specs.Book.{Book, count, c, together, sound, plainBook}
+use Rattle.rules.specs.Calls.{queueOf}
 use Rattle.rules.proofs.Tests.{truth}
 use Rattle.rules.proofs.Table.{in-link}
 use Rattle.rules.proofs.Numbers.{Stands, itself, output, in-first, in-second}
@@ -20,9 +20,9 @@ use Rattle.rules.proofs.Numbering.{tree-range}
 use Rattle.rules.proofs.Sizes.{first-mono, first-next}
 use Rattle.rules.proofs.BookLaws as rules
 use Rattle.rules.proofs.BookKept.{Shaped}
-use Rattle.buffers.specs.Format.{linksIn, countOf, startOf, markOf, counterIn, many, bookOf, lentOf, bufferOf, buffersOf}
+use Rattle.buffers.specs.Format.{linksIn, countOf, markOf, counterIn, many, bookOf, lentOf, buffersOf}
 use Rattle.buffers.specs.Slots.{capacityOf}
-use Rattle.buffers.specs.Post.{Inside, Has}
+use Rattle.buffers.specs.Post.{Inside}
 use Rattle.buffers.specs.Rules.{Part, whole, inOne, inTwo, heldUnder, topMarked, LinkRules, Rules}
 use Rattle.buffers.proofs.SlotLaws.{some, capacity-is}
 use Rattle.buffers.proofs.ArrayLaws.{has, length-each, buffer-length, buffers-at, buffers-length}

@@ -2,14 +2,14 @@
 use Prim.Native.Nat.{ℕ, zero, suc, _+_, _≤_, _<_}
 use mathlib.Core.Path.{_≡_, refl, sym, ap, _∙_, subst}
 use mathlib.Core.Logic.{_≢_}
-use mathlib.Core.Bool.{Bool, true, false, not}
+use mathlib.Core.Bool.{Bool, true, false}
 use mathlib.Core.List.{List, [], _∷_, map}
 use native.Mathlib.Omega.{arith}
-use borrow.Author.Tests.{le-leb, eq-eqb, eqb-true}
-use lib.Dec.{T, T-not, eqb, leb, ltb}
+use borrow.Author.Tests.{le-leb, eq-eqb}
+use lib.Dec.{T, T-not, ltb}
 use lib.ListN.{length, getD}
 use Rattle.rules.specs.declared.Answer.{Answer}
-use Rattle.rules.specs.declared.Answer.the-variants.{Done, ArrayShort, BookBroken, NoneHeld, OrderBroken}
+use Rattle.rules.specs.declared.Answer.the-variants.{Done, BookBroken, NoneHeld, OrderBroken}
 use Rattle.rules.specs.Answers.{numberOf, isDone}
 use Rattle.rules.specs.Entries.{wholeWord}
 use Rattle.rules.specs.Links.{from, words}
@@ -19,42 +19,27 @@ use Rattle.rules.specs.Fill.{Filled}
 use Rattle.rules.specs.Take.{Taken, takeOne, ready, handOut, insertion}
 use Rattle.rules.specs.Queue.{Queue, keyOf, held, heldFrom}
 use Rattle.rules.specs.Order.{inOrder}
-use Rattle.rules.specs.Book.{isLinkNumber, sound, marked, count}
+use Rattle.rules.specs.Book.{sound, count}
 use Rattle.rules.specs.Calls.{Lent, Outcome, Check, _else_, firstFailing, refused, unless, arrayChecks, takeChecks, queueOf, withBuffers, theEntry, take, look, heldCall, audit}
 use Rattle.rules.proofs.Tests.{truth}
 use Rattle.rules.proofs.Takes.{hand-steps}
 use Rattle.rules.proofs.BookLaws as rules
 use Rattle.rules.proofs.BookKept.{take-kept, look-kept}
-use Rattle.rules.proofs.Accepted.{Long, MayTake, Refusal, take-cases, held-cases}
+use Rattle.rules.proofs.Accepted.{Long, MayTake, take-cases}
 use Rattle.buffers.specs.Format.{linksIn, countOf, markOf, markIn, counterIn, many, bookOf, lentOf, buffersOf}
 use Rattle.buffers.specs.Post.{Inside, Kept}
-use Rattle.buffers.proofs.ArrayLaws.{has, kept-links, kept-none}
+use Rattle.buffers.proofs.ArrayLaws.{has, kept-links}
 use Rattle.buffers.proofs.SlotLaws.{some}
 use Rattle.buffers.proofs.RuleLaws.{sound-rules}
 use Rattle.buffers.proofs.Exact.{sound-inside, count-is, mark-is}
 use Rattle.mergers.specs.Fills.{MarksRight, Did}
 use Rattle.queue.specs.Heads.{CanTake, Took, oneIf, headIn}
 use Rattle.queue.specs.Calls.{Called}
-use Rattle.queue.proofs.CheckLaws.{shortest}
+use Rattle.queue.proofs.CheckLaws.{done, not-done, unlike, Holding, early, each-holds, late, shortest, long-says}
 use Rattle.queue.proofs.HandLaws.{taken-is, word-of-I}
 use Rattle.queue.proofs.BookLaws.{describes, shaped, marks-right, sound-after}
 
 -- ---- answers
-
-pub done : (x : Answer) → numberOf x ≡ 0 → isDone x ≡ true
-unfolding isDone
-done x e = eq-eqb (numberOf x) 0 e
-
-pub not-done : (x : Answer) → numberOf x ≢ 0 → isDone x ≡ false
-unfolding isDone
-not-done x differ = go (eqb (numberOf x) 0) refl
-  where
-    go : (b : Bool) → eqb (numberOf x) 0 ≡ b → b ≡ false
-    go true e = absurd (differ (eqb-true (numberOf x) 0 e))
-    go false e = refl
-
-unlike : true ≡ false → ⊥
-unlike e = subst T e tt
 
 -- where no check fails, the call is done
 pub accepted-is : (failing : Answer) (q : Queue) (o : Outcome) → isDone failing ≡ true → unless failing q o ≡ o
@@ -65,29 +50,6 @@ accepted-is failing q o e = subst (λ b. elim b [ true ↦ o | false ↦ refused
 pub refused-is : (failing : Answer) (q : Queue) (o : Outcome) → isDone failing ≡ false → unless failing q o ≡ refused failing q
 unfolding unless
 refused-is failing q o e = subst (λ b. elim b [ true ↦ o | false ↦ refused failing q ] ≡ refused failing q) (sym e) refl
-
--- ---- four checks, and those behind them
-
-abbrev four : Bool → Bool → Bool → Bool → List Check → List Check
-four t u v w checks = (t else ArrayShort) ∷ (u else BookBroken) ∷ (v else ArrayShort) ∷ (w else BookBroken) ∷ checks
-
--- what fails among the four fails first
-early : (t u v w : Bool) (others : List Check) (x : Answer) → x ≡ firstFailing (four t u v w []) → isDone x ≡ false → x ≡ firstFailing (four t u v w others)
-unfolding firstFailing isDone
-early true true true true others x e f = absurd (unlike (sym (ap isDone e) ∙ f))
-early true true true false others x e f = e
-early true true false w others x e f = e
-early true false v w others x e f = e
-early false u v w others x e f = e
-
--- where none of the four fails, the others decide
-late : (t u v w : Bool) (others : List Check) (x : Answer) → x ≡ firstFailing (four t u v w []) → isDone x ≡ true → firstFailing (four t u v w others) ≡ firstFailing others
-unfolding firstFailing isDone
-late true true true true others x e f = refl
-late true true true false others x e f = absurd (unlike (sym f ∙ ap isDone e))
-late true true false w others x e f = absurd (unlike (sym f ∙ ap isDone e))
-late true false v w others x e f = absurd (unlike (sym f ∙ ap isDone e))
-late false u v w others x e f = absurd (unlike (sym f ∙ ap isDone e))
 
 -- ---- an array and its checks
 
@@ -105,22 +67,35 @@ module _ (ws : List ℕ) where
   abbrev none-held : List Check
   none-held = (ltb 0 (held (queueOf (lentOf ws))) else NoneHeld) ∷ []
 
-  -- every check behind the common ones
-  pub refused-before : (others : List Check) (x : Answer) → x ≡ common → numberOf x ≢ 0 → x ≡ firstFailing (arrayChecks (lentOf ws) ((sound (bookOf ws) else BookBroken) ∷ others))
-  unfolding arrayChecks lentOf
-  refused-before others x e f = early (leb (words 1) (length ws)) (isLinkNumber (linksIn ws)) (leb (words (linksIn ws)) (length ws)) (sound (bookOf ws)) others x e (not-done x f)
+  abbrev book-check : List Check
+  book-check = (sound (bookOf ws) else BookBroken) ∷ []
 
-  pub passed-all : (others : List Check) (x : Answer) → x ≡ common → numberOf x ≡ 0 → firstFailing (arrayChecks (lentOf ws) ((sound (bookOf ws) else BookBroken) ∷ others)) ≡ firstFailing others
-  unfolding arrayChecks lentOf
-  passed-all others x e f = late (leb (words 1) (length ws)) (isLinkNumber (linksIn ws)) (leb (words (linksIn ws)) (length ws)) (sound (bookOf ws)) others x e (done x f)
+  -- x is what they answer
+  module _ (x : Answer) (x-is : x ≡ common) where
+    pub refused-before : (others : List Check) → numberOf x ≢ 0 → x ≡ firstFailing (arrayChecks (lentOf ws) ((sound (bookOf ws) else BookBroken) ∷ others))
+    unfolding arrayChecks
+    refused-before others differ = early (arrayChecks (lentOf ws) book-check) others x x-is differ
 
-  pub refused-early : (x : Answer) → x ≡ common → numberOf x ≢ 0 → x ≡ firstFailing (takeChecks (lentOf ws))
-  unfolding takeChecks lentOf
-  refused-early x e f = refused-before none-held x e f
+    pub refused-early : numberOf x ≢ 0 → x ≡ firstFailing (takeChecks (lentOf ws))
+    unfolding takeChecks lentOf
+    refused-early differ = refused-before none-held differ
 
-  passed : (x : Answer) → x ≡ common → numberOf x ≡ 0 → firstFailing (takeChecks (lentOf ws)) ≡ firstFailing none-held
-  unfolding takeChecks lentOf
-  passed x e f = passed-all none-held x e f
+    module _ (none-fails : numberOf x ≡ 0) where
+      common-hold : Holding (arrayChecks (lentOf ws) book-check)
+      unfolding arrayChecks isDone
+      common-hold = each-holds (arrayChecks (lentOf ws) book-check) x (refl, (refl, (refl, (refl, tt)))) x-is none-fails
+
+      pub passed-all : (others : List Check) → firstFailing (arrayChecks (lentOf ws) ((sound (bookOf ws) else BookBroken) ∷ others)) ≡ firstFailing others
+      unfolding arrayChecks
+      passed-all others = late (arrayChecks (lentOf ws) book-check) others common-hold
+
+      passed : firstFailing (takeChecks (lentOf ws)) ≡ firstFailing none-held
+      unfolding takeChecks lentOf
+      passed = passed-all none-held
+
+      pub may-hold : Long (lentOf ws) × T (sound (lentOf ws .book))
+      unfolding lentOf
+      may-hold = let h = long-says ws book-check common-hold in (h .0, h .1 .0)
 
   -- the array as the document wants it
   module _ (long : Long (lentOf ws)) (right : T (sound (lentOf ws .book))) where
@@ -182,12 +157,6 @@ module _ (ws : List ℕ) where
   held-is : isDone common ≡ true → heldCall (lentOf ws) ≡ held-accepted
   unfolding heldCall lentOf
   held-is e = accepted-is common (queueOf (lentOf ws)) held-accepted e
-
-  pub may-hold : isDone common ≡ true → Long (lentOf ws) × T (sound (lentOf ws .book))
-  unfolding refused
-  may-hold e =
-      held-cases (lentOf ws) (λ o. T (isDone (o .answer)) → Long (lentOf ws) × T (sound (lentOf ws .book))) (λ answer r t. absurd (T-not (isDone answer) (r .not-done) t)) (λ l s t. (l, s))
-      (subst T (sym (ap (λ (o : Outcome). isDone (o .answer)) (held-is e) ∙ done-is)) tt)
 
 -- ---- a queue after a change of buffers
 
@@ -263,8 +232,8 @@ module _ (ws : List ℕ) (x : Answer) (x-is : x ≡ firstFailing (takeChecks (le
     may : MayTake (lentOf ws)
     may = may-take ws all-hold
 
-    pub may-can : CanTake ws (linksIn ws)
-    may-can = can-take ws (may .long) (may .holds)
+    can-all : CanTake ws (linksIn ws)
+    can-all = can-take ws (may .long) (may .holds)
 
     -- the book is sound afterwards
     module _ (ws′ : List ℕ) (array : Inside ws′) (kept : Kept ws ws′) (marks : MarksRight ws′ (linksFrom 1 (linksIn ws))) (mark-of-I : markOf ws′ 0 ≡ markOf ws 0) (fewer-in-I : countOf ws′ 0 ≤ countOf ws 0) where
@@ -274,49 +243,57 @@ module _ (ws : List ℕ) (x : Answer) (x-is : x ≡ firstFailing (takeChecks (le
           sound-after ws′ array k (rw (kept-links kept) marks)
           (λ e. let none = insertion-mark ws (may .long) (may .holds) (sym mark-of-I ∙ e) in omega (arith, fewer-in-I))
 
-    pub take-called : (ws′ : List ℕ) (found : Bool) (entry steps : ℕ) → Took ws ws′ (linksIn ws) (takeOne wholeWord (linksFrom 1 (linksIn ws)) (buffersOf ws)) found entry steps → Called ws ws′ (take (lentOf ws)) Done entry steps false
-    unfolding keyOf treeOf queueOf lentOf bookOf
-    take-called ws′ found entry steps z =
-        let o = take-is ws all-hold in
-        let array = inside ws (may .long) (may .holds) in
-        let after : queueOf (lentOf ws′) ≡ withBuffers (queueOf (lentOf ws)) (taken ws .buffers) = same-queue ws ws′ (taken ws .buffers) array (z .kept) (z .state) in
-        let k = take-kept 7 (queueOf (lentOf ws)) (shaped ws array) (kept-now ws (may .long) (may .holds)) in
-        accepted-called ws ws′ (take (lentOf ws)) entry steps false
-        (ap (λ (r : Outcome). r .answer) o)
-        (the-one found entry (taken ws .out) (z .out) (z .none) ∙ sym (ap (λ (r : Outcome). r .word) o))
-        (z .count ∙ sym (ap (λ (r : Outcome). r .steps) o))
-        (sym (ap (λ (r : Outcome). r .packed) o))
-        (after ∙ sym (ap (λ (r : Outcome). r .queue) o))
-        (sound-still ws′ (z .array) (z .kept) (z .marks) (z .mark-of-I) (z .fewer-in-I) (subst (rules.Kept 7) (sym after) k))
-        (z .kept .long)
-        (λ p h. z .kept .past p (rw (kept-links (z .kept)) at h))
-
-    pub look-called : (ws′ : List ℕ) (word steps : ℕ) → Did ws ws′ (linksFrom 1 (linksIn ws)) (ready wholeWord (linksFrom 1 (linksIn ws)) (buffersOf ws)) steps
-        → word ≡ headIn (mergeStep wholeWord (entries (linksFrom 1 (linksIn ws)) (buffersOf ws′)) (insertion (buffersOf ws′))) → Called ws ws′ (look (lentOf ws)) Done word steps false
-    unfolding keyOf treeOf queueOf lentOf bookOf
-    look-called ws′ word steps d w =
-        let o = look-is ws all-hold in
-        let array = inside ws (may .long) (may .holds) in
-        let t = linksFrom 1 (linksIn ws) in
-        let now = ready wholeWord t (buffersOf ws) in
-        let step = mergeStep wholeWord (entries t (buffersOf ws′)) (insertion (buffersOf ws′)) in
-        let same : taken ws ≡ handOut t step now = taken-is ws (linksIn ws) may-can ws′ steps d step refl in
-        let I-word = word-of-I ws (linksIn ws) may-can ws′ steps d in
-        let after : queueOf (lentOf ws′) ≡ withBuffers (queueOf (lentOf ws)) (now .buffers) = same-queue ws ws′ (now .buffers) array (d .kept) (d .state) in
-        let k = look-kept 7 (queueOf (lentOf ws)) (shaped ws array) (kept-now ws (may .long) (may .holds)) in
-        accepted-called ws ws′ (look (lentOf ws)) word steps false
-        (ap (λ (r : Outcome). r .answer) o)
-        (w ∙ sym (head-out t step now) ∙ sym (ap (λ (z : Taken). theEntry (z .out)) same) ∙ sym (ap (λ (r : Outcome). r .word) o))
-        (d .count ∙ sym (hand-steps t step now) ∙ sym (ap (λ (z : Taken). z .steps) same) ∙ sym (ap (λ (r : Outcome). r .steps) o))
-        (sym (ap (λ (r : Outcome). r .packed) o))
-        (after ∙ sym (ap (λ (r : Outcome). r .queue) o))
-        (sound-still ws′ (d .array) (d .kept) (d .marks) (ap markIn I-word) (rw I-word (omega arith)) (subst (rules.Kept 7) (sym after) k))
-        (d .kept .long)
-        (λ p h. d .kept .past p (rw (kept-links (d .kept)) at h))
-
     pub take-some-words : 0 < length ws
     unfolding lentOf
-    take-some-words = omega (arith, may .long .shortest, shortest ws [])
+    take-some-words = omega (arith, may .long .shortest, shortest ws)
+
+    -- l is what the call has read as link number
+    module _ (l : ℕ) (l-is : l ≡ linksIn ws) where
+      pub may-can : CanTake ws l
+      may-can = rw l-is can-all
+
+      pub take-called : (ws′ : List ℕ) (found : Bool) (entry steps : ℕ) → Took ws ws′ l (takeOne wholeWord (linksFrom 1 l) (buffersOf ws)) found entry steps → Called ws ws′ (take (lentOf ws)) Done entry steps false
+      unfolding keyOf treeOf queueOf lentOf bookOf
+      take-called ws′ found entry steps took =
+          let z = subst (λ l. Took ws ws′ l (takeOne wholeWord (linksFrom 1 l) (buffersOf ws)) found entry steps) l-is took in
+          let o = take-is ws all-hold in
+          let array = inside ws (may .long) (may .holds) in
+          let after : queueOf (lentOf ws′) ≡ withBuffers (queueOf (lentOf ws)) (taken ws .buffers) = same-queue ws ws′ (taken ws .buffers) array (z .kept) (z .state) in
+          let k = take-kept 7 (queueOf (lentOf ws)) (shaped ws array) (kept-now ws (may .long) (may .holds)) in
+          accepted-called ws ws′ (take (lentOf ws)) entry steps false
+          (ap (λ (r : Outcome). r .answer) o)
+          (the-one found entry (taken ws .out) (z .out) (z .none) ∙ sym (ap (λ (r : Outcome). r .word) o))
+          (z .count ∙ sym (ap (λ (r : Outcome). r .steps) o))
+          (sym (ap (λ (r : Outcome). r .packed) o))
+          (after ∙ sym (ap (λ (r : Outcome). r .queue) o))
+          (sound-still ws′ (z .array) (z .kept) (z .marks) (z .mark-of-I) (z .fewer-in-I) (subst (rules.Kept 7) (sym after) k))
+          (z .kept .long)
+          (λ p h. z .kept .past p (rw (kept-links (z .kept)) at h))
+
+      pub look-called : (ws′ : List ℕ) (word steps : ℕ) → Did ws ws′ (linksFrom 1 l) (ready wholeWord (linksFrom 1 l) (buffersOf ws)) steps
+          → word ≡ headIn (mergeStep wholeWord (entries (linksFrom 1 l) (buffersOf ws′)) (insertion (buffersOf ws′))) → Called ws ws′ (look (lentOf ws)) Done word steps false
+      unfolding keyOf treeOf queueOf lentOf bookOf
+      look-called ws′ word steps did said =
+          let d = subst (λ l. Did ws ws′ (linksFrom 1 l) (ready wholeWord (linksFrom 1 l) (buffersOf ws)) steps) l-is did in
+          let w = subst (λ l. word ≡ headIn (mergeStep wholeWord (entries (linksFrom 1 l) (buffersOf ws′)) (insertion (buffersOf ws′)))) l-is said in
+          let o = look-is ws all-hold in
+          let array = inside ws (may .long) (may .holds) in
+          let t = linksFrom 1 (linksIn ws) in
+          let now = ready wholeWord t (buffersOf ws) in
+          let step = mergeStep wholeWord (entries t (buffersOf ws′)) (insertion (buffersOf ws′)) in
+          let same : taken ws ≡ handOut t step now = taken-is ws (linksIn ws) can-all ws′ steps d step refl in
+          let I-word = word-of-I ws (linksIn ws) can-all ws′ steps d in
+          let after : queueOf (lentOf ws′) ≡ withBuffers (queueOf (lentOf ws)) (now .buffers) = same-queue ws ws′ (now .buffers) array (d .kept) (d .state) in
+          let k = look-kept 7 (queueOf (lentOf ws)) (shaped ws array) (kept-now ws (may .long) (may .holds)) in
+          accepted-called ws ws′ (look (lentOf ws)) word steps false
+          (ap (λ (r : Outcome). r .answer) o)
+          (w ∙ sym (head-out t step now) ∙ sym (ap (λ (z : Taken). theEntry (z .out)) same) ∙ sym (ap (λ (r : Outcome). r .word) o))
+          (d .count ∙ sym (hand-steps t step now) ∙ sym (ap (λ (z : Taken). z .steps) same) ∙ sym (ap (λ (r : Outcome). r .steps) o))
+          (sym (ap (λ (r : Outcome). r .packed) o))
+          (after ∙ sym (ap (λ (r : Outcome). r .queue) o))
+          (sound-still ws′ (d .array) (d .kept) (d .marks) (ap markIn I-word) (rw I-word (omega arith)) (subst (rules.Kept 7) (sym after) k))
+          (d .kept .long)
+          (λ p h. d .kept .past p (rw (kept-links (d .kept)) at h))
 
 -- ---- held and audit, and the checks of take and look
 
@@ -339,18 +316,18 @@ module _ (ws : List ℕ) (x : Answer) (x-is : x ≡ common ws) where
   audit-refusal y e f = refusal-called ws (firstFailing audit-checks) audit-accepted y e f
 
   pub audit-refused : numberOf x ≢ 0 → Called ws ws (audit (lentOf ws)) x 0 0 false
-  audit-refused differ = audit-refusal x (refused-before ws ((in-order else OrderBroken) ∷ []) x x-is differ) (not-done x differ)
+  audit-refused differ = audit-refusal x (refused-before ws x x-is ((in-order else OrderBroken) ∷ []) differ) (not-done x differ)
 
   module _ (none-fails : numberOf x ≡ 0) where
     book-holds : isDone (common ws) ≡ true
     book-holds = ap isDone (sym x-is) ∙ done x none-fails
 
     may-now : Long (lentOf ws) × T (sound (lentOf ws .book))
-    may-now = may-hold ws book-holds
+    may-now = may-hold ws x x-is none-fails
 
     pub some-words : 0 < length ws
     unfolding lentOf
-    some-words = omega (arith, may-now .0 .shortest, shortest ws [])
+    some-words = omega (arith, may-now .0 .shortest, shortest ws)
 
     pub held-inside : Inside ws
     held-inside = inside ws (may-now .0) (may-now .1)
@@ -388,7 +365,7 @@ module _ (ws : List ℕ) (x : Answer) (x-is : x ≡ common ws) where
     module _ (t : Bool) (t-is : t ≡ inOrder wholeWord (treeOf (linksIn ws)) (buffersOf ws)) where
       audit-answer : firstFailing audit-checks ≡ elim t [ true ↦ Done | false ↦ OrderBroken ]
       unfolding firstFailing keyOf queueOf lentOf bookOf
-      audit-answer = passed-all ws ((in-order else OrderBroken) ∷ []) x x-is none-fails ∙ ap (λ b. firstFailing ((b else OrderBroken) ∷ [])) (sym t-is)
+      audit-answer = passed-all ws x x-is none-fails ((in-order else OrderBroken) ∷ []) ∙ ap (λ b. firstFailing ((b else OrderBroken) ∷ [])) (sym t-is)
 
       pub audit-called : t ≡ true → Called ws ws (audit (lentOf ws)) Done 0 0 false
       unfolding audit lentOf

@@ -1,7 +1,6 @@
 -- Emptying by repeated takes: what the loop keeps.
-use Prim.Native.Nat.{ℕ, zero, suc, _+_, _-_, _*_, _≤_, _<_}
+use Prim.Native.Nat.{ℕ, zero, suc, _+_, _*_, _≤_, _<_}
 use mathlib.Core.Path.{_≡_, refl, sym, ap, _∙_, subst}
-use mathlib.Core.Logic.{_≢_}
 use mathlib.Core.Bool.{Bool, true, false}
 use mathlib.Core.List.{List, [], _∷_, _++_, append-assoc, append-nil}
 use native.Mathlib.Omega.{arith}
@@ -9,12 +8,12 @@ use native.Mathlib.Nat.{add-assoc, add-zero, zero-add}
 use native.Mathlib.Numerals.{add-one}
 use lib.ListN.{length, getD, set, length-append}
 use Rattle.rules.specs.Entries.{wholeWord}
-use Rattle.rules.specs.Links.{first, bufferCount, InLink, LinkNumber}
-use Rattle.rules.specs.Tree.{Buffers, Tree, exhausted, linksFrom, treeOf, entries}
-use Rattle.rules.specs.Fill.{Filled, ifEmpty, untouched, fill}
+use Rattle.rules.specs.Links.{first, bufferCount, LinkNumber}
+use Rattle.rules.specs.Tree.{Buffers, Tree, linksFrom, treeOf, entries}
+use Rattle.rules.specs.Fill.{Filled, untouched, fill}
 use Rattle.rules.specs.Merge.{mergeStep}
-use Rattle.rules.specs.Take.{Taken, takeOne, takes, takeAll, ready, insertion, heldIn}
-use Rattle.rules.specs.Queue.{Queue, held, heldFrom}
+use Rattle.rules.specs.Take.{Taken, takeOne, takes, takeAll, ready, insertion}
+use Rattle.rules.specs.Queue.{held, heldFrom}
 use Rattle.rules.proofs.Held.{held-split}
 use Rattle.rules.proofs.Takes.{hand-steps, Beside, ready-cases}
 use Rattle.rules.proofs.TakeLaws.{heldAll, take-one, take-held}
@@ -24,18 +23,17 @@ use Rattle.rules.proofs.Full.{Roomy}
 use Rattle.rules.proofs.Table.{in-link, k-least}
 use Rattle.rules.proofs.Numbering.{tree-roomy, links-among}
 use Rattle.rules.proofs.Sizes.{first-mono}
-use Rattle.buffers.specs.Format.{linksIn, wordOf, countOf, many, buffersOf}
-use Rattle.buffers.specs.Post.{Inside, Kept}
+use Rattle.buffers.specs.Format.{linksIn, countOf, many, buffersOf}
+use Rattle.buffers.specs.Post.{Inside}
 use Rattle.buffers.proofs.SlotLaws.{few}
 use Rattle.buffers.proofs.ArrayLaws.{has, buffer-length, buffers-at, buffers-length, kept-links, kept-none, kept-then}
-use Rattle.mergers.specs.Fills.{StandsIn}
 use Rattle.mergers.proofs.BoundLaws.{steps-few}
 use Rattle.runs.specs.Promises.{laidAt}
 use Rattle.runs.proofs.LayingLaws.{laid-none, laid-more, length-laid}
 use Rattle.queue.specs.Heads.{CanTake, Took, oneIf}
 use Rattle.queue.proofs.CheckLaws.{held-more}
 use Rattle.queue.proofs.ReadyLaws.{tree-is}
-use Rattle.queue.specs.Emptying.{CanEmpty, TookAll}
+use Rattle.queue.specs.Emptying.{TookAll}
 
 -- ---- one take more, at the end
 

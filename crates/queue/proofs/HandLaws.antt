@@ -1,6 +1,6 @@
 -- One take over the array: A(1) is ready, and the smaller head leaves its buffer.
-use Prim.Native.Nat.{ℕ, zero, suc, _+_, _-_, _≤_, _<_}
-use mathlib.Core.Path.{_≡_, refl, sym, ap, _∙_, subst}
+use Prim.Native.Nat.{ℕ, suc, _+_, _≤_, _<_}
+use mathlib.Core.Path.{_≡_, refl, sym, ap, _∙_}
 use mathlib.Core.Logic.{_≢_, _⊎_, inl, inr, ⊎-elim}
 use mathlib.Core.Bool.{Bool, true, false}
 use mathlib.Core.List.{List, [], _∷_}
@@ -9,24 +9,23 @@ use native.Mathlib.Decide.{decLt, ℕ-discrete}
 use lib.Dec.{leb}
 use lib.ListN.{length, getD, drop, set, length-drop}
 use lib.Seq.{set-getD, set-comm, getD-set-same, getD-set-other}
-use Rattle.queue.specs.declared.Source.{Source}
 use Rattle.queue.specs.declared.Source.the-variants.{Neither, First, Insertion}
 use Rattle.rules.specs.Entries.{wholeWord}
 use Rattle.rules.specs.Links.{first, bufferCount}
-use Rattle.rules.specs.Tree.{Buffers, Tree, exhausted, buffer, merger, entries, put, linksFrom}
+use Rattle.rules.specs.Tree.{Buffers, Tree, entries, put, linksFrom}
 use Rattle.rules.specs.Merge.{Step, stop, move, mergeStep}
 use Rattle.rules.specs.Fill.{Filled}
-use Rattle.rules.specs.Take.{Taken, ready, takeOne, handOut, insertion}
+use Rattle.rules.specs.Take.{ready, takeOne, handOut, insertion}
 use Rattle.rules.proofs.Numbers.{Stands}
 use Rattle.rules.proofs.Numbering.{links-range}
 use Rattle.rules.proofs.Sizes.{first-one, first-mono}
 use Rattle.buffers.specs.Format.{linksIn, wordOf, countOf, startOf, markOf, countIn, markIn, many, bufferOf, buffersOf}
-use Rattle.buffers.specs.Post.{Inside, Has, Only, Now, Kept, Word, Headed}
+use Rattle.buffers.specs.Post.{Has, Now, Kept, Word, Headed}
 use Rattle.buffers.proofs.ArrayLaws.{has, buffer-length, buffers-at, buffers-length, only-word, only-kept, kept-links, kept-then}
 use Rattle.mergers.specs.Fills.{MarksRight, StandsIn, Did}
 use Rattle.mergers.proofs.RunLaws.{put-entries}
 use Rattle.mergers.proofs.FillLaws.{in-stands, stands-in, top-put, top-stands, marks-less}
-use Rattle.queue.specs.Heads.{sourceOf, headIn, CanTake, oneIf, Took}
+use Rattle.queue.specs.Heads.{sourceOf, headIn, CanTake, Took}
 use Rattle.queue.proofs.ReadyLaws.{top-first, first-has, insertion-has, insertion-is, first-is, first-none, first-headed, insertion-headed}
 
 -- ---- the step that the smaller head makes

@@ -1,22 +1,22 @@
 -- An insert over the array: the entry is in I, room is made where I then has 8, and all is as the rules say.
-use Prim.Native.Nat.{ℕ, zero, suc, _+_, _-_, _≤_, _<_}
+use Prim.Native.Nat.{ℕ, suc, _+_, _-_, _≤_, _<_}
 use mathlib.Core.Path.{_≡_, refl, sym, ap, _∙_, subst}
 use mathlib.Core.Logic.{_≢_}
 use mathlib.Core.Bool.{Bool, true, false}
-use mathlib.Core.List.{List, [], _∷_}
+use mathlib.Core.List.{List, []}
 use native.Mathlib.Omega.{arith}
 use borrow.Author.Tests.{le-leb, lt-leb, eq-eqb, eqb-true}
 use lib.Dec.{T, T-not, leb, eqb}
-use lib.ListN.{length, getD, set}
+use lib.ListN.{length, set}
 use lib.Seq.{getD-set-other}
 use Rattle.rules.specs.declared.Answer.{Answer}
 use Rattle.rules.specs.declared.Answer.the-variants.{Done}
 use Rattle.rules.specs.Answers.{numberOf, isDone}
 use Rattle.rules.specs.Entries.{wholeWord}
-use Rattle.rules.specs.Links.{k, first, most, numberOfS, bufferCount, words, LinkNumber}
-use Rattle.rules.specs.Tree.{Buffers, Tree, linksFrom, treeOf}
+use Rattle.rules.specs.Links.{k, numberOfS, bufferCount, words}
+use Rattle.rules.specs.Tree.{linksFrom, treeOf}
 use Rattle.rules.specs.Take.{insertion}
-use Rattle.rules.specs.Queue.{Queue, keyOf, counter, held, heldFrom}
+use Rattle.rules.specs.Queue.{Queue, keyOf, counter, held}
 use Rattle.rules.specs.Book.{sound}
 use Rattle.rules.specs.Insert.{placed, lowest, Inserted, swept, packed, entered, makeRoom, inserted}
 use Rattle.rules.specs.Calls.{Outcome, queueOf, withBuffers, firstFailing, insertChecks, refused, insert}
@@ -25,18 +25,16 @@ use Rattle.rules.proofs.Numbers.{Stands}
 use Rattle.rules.proofs.Sizes.{first-one}
 use Rattle.rules.proofs.Numbering.{links-range, tree-range, s-stands}
 use Rattle.rules.proofs.Held.{held-split}
-use Rattle.rules.proofs.TakeLaws.{heldAll}
-use Rattle.rules.proofs.PathCounts.{Lowest, lowest-is}
+use Rattle.rules.proofs.PathCounts.{lowest-is}
 use Rattle.rules.proofs.BookLaws as rules
 use Rattle.rules.proofs.BookKept.{Shaped}
 use Rattle.rules.proofs.SweepKept.{swept-fits}
 use Rattle.rules.proofs.InsertLaws.{now-kept, inserted-kept}
 use Rattle.rules.proofs.Accepted.{MayInsert, insert-call-cases}
-use Rattle.buffers.specs.Format.{linksIn, counterIn, countOf, markOf, markIn, many, bookOf, lentOf, bufferOf, buffersOf}
+use Rattle.buffers.specs.Format.{linksIn, counterIn, markIn, many, bookOf, lentOf, bufferOf, buffersOf}
 use Rattle.buffers.specs.Slots.{capacityOf}
 use Rattle.buffers.specs.Post.{Inside, Has, Now, Kept, Word}
 use Rattle.buffers.proofs.ArrayLaws.{has, each-at, buffer-length, buffers-at, only-word, only-kept, kept-links}
-use Rattle.mergers.specs.Fills.{MarksRight}
 use Rattle.mergers.proofs.FillLaws.{marks-less}
 use Rattle.paths.specs.Placing.{Placing}
 use Rattle.paths.proofs.SlotsLaws.{placing}
@@ -45,7 +43,8 @@ use Rattle.queue.specs.Calls.{Called}
 use Rattle.queue.specs.Room.{CanMove, CanSweep, CanPack, CanMakeRoom, MadeRoom, WorkKept}
 use Rattle.queue.proofs.ReadyLaws.{insertion-has, insertion-is}
 use Rattle.queue.proofs.BookLaws.{shaped, sound-after}
-use Rattle.queue.proofs.CallLaws.{done, not-done, done-is, accepted-is, refusal-called, accepted-called, inside, can-take, kept-now, same-queue}
+use Rattle.queue.proofs.CheckLaws.{done, not-done}
+use Rattle.queue.proofs.CallLaws.{done-is, accepted-is, refusal-called, accepted-called, inside, can-take, kept-now, same-queue}
 
 -- ---- the three cases of making room
 

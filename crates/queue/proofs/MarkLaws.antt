@@ -1,15 +1,14 @@
 -- Marks over fewer links, and after a sweep: its path has none, links before its own have nothing below their outputs, and all else is as it was.
-use Prim.Native.Nat.{ℕ, zero, suc, _+_, _-_, _≤_, _<_}
-use mathlib.Core.Path.{_≡_, refl, sym, ap, _∙_, subst}
+use Prim.Native.Nat.{ℕ, zero, suc, _+_, _≤_, _<_}
+use mathlib.Core.Path.{_≡_, subst}
 use mathlib.Core.Logic.{_≢_}
 use mathlib.Core.List.{List, [], _∷_, _++_}
 use native.Mathlib.Omega.{arith}
 use lib.ListN.{length, getD, take}
-use Rattle.rules.specs.Links.{first, capacity}
 use Rattle.rules.specs.Tree.{Buffers, Tree, exhausted, buffer, merger, kMerger, linksFrom}
 use Rattle.rules.specs.Take.{heldIn}
 use Rattle.rules.specs.Sweep.{outputs}
-use Rattle.rules.proofs.Numbers.{Stands, itself, output, in-first, in-second, Among, joint, among-first, among-second}
+use Rattle.rules.proofs.Numbers.{Stands, in-first, in-second, Among, joint, among-first, among-second}
 use Rattle.rules.proofs.Paths.{Way, end, by-first, by-second}
 use Rattle.rules.proofs.PathCounts.{NotOn, not-on-way}
 use Rattle.rules.proofs.PackLaws.{stands-none}

@@ -1,28 +1,27 @@
 -- A(1) made ready: filled where it is empty, over the first links.
 use Prim.Native.Nat.{ℕ, zero, suc, _+_, _-_, _≤_, _<_}
-use mathlib.Core.Path.{_≡_, refl, sym, ap, _∙_, subst}
-use mathlib.Core.Bool.{Bool, true, false}
+use mathlib.Core.Path.{_≡_, refl, sym, ap, _∙_}
+use mathlib.Core.Bool.{true, false}
 use mathlib.Core.List.{List, [], _∷_}
 use native.Mathlib.Omega.{arith}
-use borrow.Author.Tests.{le-leb, lt-leb, leb-true, leb-false}
+use borrow.Author.Tests.{leb-true, leb-false}
 use lib.Dec.{leb}
 use lib.ListN.{length, getD}
 use Rattle.rules.specs.Entries.{wholeWord}
-use Rattle.rules.specs.Tests.{_and_}
-use Rattle.rules.specs.Links.{k, first, bookWords, LinkNumber, InLink}
-use Rattle.rules.specs.Tree.{Buffers, Tree, exhausted, buffer, merger, entries, linksFrom}
-use Rattle.rules.specs.Fill.{Filled, fill}
+use Rattle.rules.specs.Links.{first, bookWords, LinkNumber}
+use Rattle.rules.specs.Tree.{exhausted, entries, linksFrom}
+use Rattle.rules.specs.Fill.{fill}
 use Rattle.rules.specs.Take.{ready, insertion}
 use Rattle.rules.proofs.Table.{in-link, k-least}
 use Rattle.rules.proofs.Sizes.{first-one}
-use Rattle.buffers.specs.Format.{linksIn, countOf, many, bufferOf, buffersOf}
+use Rattle.buffers.specs.Format.{countOf, many, bufferOf, buffersOf}
 use Rattle.buffers.specs.Slots.{base, slotOf}
-use Rattle.buffers.specs.Post.{Inside, Has, Headed}
+use Rattle.buffers.specs.Post.{Has, Headed}
 use Rattle.buffers.proofs.SlotLaws.{some}
 use Rattle.buffers.proofs.ArrayLaws.{has, buffer-length, buffers-at}
 use Rattle.mergers.specs.Subtree.{subtree}
 use Rattle.mergers.specs.Post.{wanted, wantedIn}
-use Rattle.mergers.specs.Fills.{MarksRight, CanFill, Did}
+use Rattle.mergers.specs.Fills.{CanFill, Did}
 use Rattle.mergers.proofs.FillLaws.{IsTop, top-entries, Input, left-alone, filled-now}
 use Rattle.mergers.proofs.WalkLaws.{wanted-none, and-first, and-second}
 use Rattle.queue.specs.Heads.{CanTake, sourceOf}

@@ -6,22 +6,20 @@ use mathlib.Core.List.{List, [], _∷_, map}
 use native.Mathlib.Omega.{arith}
 use borrow.Author.Tests.{le-leb, lt-leb}
 use lib.Dec.{T, leb}
-use lib.ListN.{length, getD, take, drop, replicate}
+use lib.ListN.{length, take, drop, replicate}
 use Rattle.rules.specs.declared.Answer.{Answer}
 use Rattle.rules.specs.declared.Answer.the-variants.{Done, NoSuchLinks, ArrayShort}
 use Rattle.rules.specs.Answers.{isDone}
-use Rattle.rules.specs.Tests.{_and_}
 use Rattle.rules.specs.Links.{from, bufferCount, bookWords, words, mostLinks, LinkNumber}
-use Rattle.rules.specs.Tree.{Buffers, Tree, exhausted, buffer, merger, treeOf}
-use Rattle.rules.specs.Queue.{Queue, fresh}
+use Rattle.rules.specs.Tree.{Tree, exhausted, buffer, merger, treeOf}
+use Rattle.rules.specs.Queue.{fresh}
 use Rattle.rules.specs.Book.{isLinkNumber, sound}
-use Rattle.rules.specs.Calls.{Outcome, Check, _else_, firstFailing, refused, queueOf, setup}
+use Rattle.rules.specs.Calls.{Outcome, Check, _else_, firstFailing, queueOf, setup}
 use Rattle.rules.proofs.Numbers.{Stands, itself, output, in-first, in-second}
 use Rattle.rules.proofs.Numbering.{tree-range}
 use Rattle.rules.proofs.BookLaws as rules
 use Rattle.rules.proofs.BookKept.{fresh-kept}
-use Rattle.buffers.specs.Format.{linksIn, countIn, markIn, startIn, countOf, startOf, markOf, wordOf, counterIn, many, bookOf, lentOf, bufferOf, buffersOf, headOf}
-use Rattle.buffers.specs.Slots.{capacityOf}
+use Rattle.buffers.specs.Format.{linksIn, countIn, markIn, markOf, wordOf, counterIn, many, bookOf, lentOf, bufferOf, buffersOf, headOf}
 use Rattle.buffers.specs.Post.{Inside}
 use Rattle.buffers.proofs.SlotLaws.{words-end, behind-book, few, some}
 use Rattle.buffers.specs.Fresh.{CanBegin, Begun}

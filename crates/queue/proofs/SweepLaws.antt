@@ -1,7 +1,7 @@
 -- A sweep over the array: each of its parts may be done, and together they are the rules' sweep.
-use Prim.Native.Nat.{ℕ, zero, suc, _+_, _-_, _*_, _≤_, _<_}
-use mathlib.Core.Path.{_≡_, refl, sym, ap, _∙_, subst}
-use mathlib.Core.Logic.{_≢_, _⊎_, inl, inr}
+use Prim.Native.Nat.{ℕ, zero, suc, _+_, _-_, _≤_, _<_}
+use mathlib.Core.Path.{_≡_, sym, ap, _∙_, subst}
+use mathlib.Core.Logic.{inr}
 use mathlib.Core.Bool.{true}
 use mathlib.Core.List.{List, [], _∷_, _++_, map}
 use native.Mathlib.Omega.{arith}
@@ -12,12 +12,11 @@ use lib.ListN.{length, getD, take, drop}
 use lib.Seq.{ext-getD, take-at, length-take-le}
 use Rattle.rules.specs.Entries.{wholeWord}
 use Rattle.rules.specs.Tests.{every}
-use Rattle.rules.specs.Links.{k, s, first, sum, most, from, numberOfS, bufferCount, words, LinkNumber}
-use Rattle.rules.specs.Tree.{Buffers, Tree, kMerger, linksFrom, treeOf}
-use Rattle.rules.specs.Merge.{join}
+use Rattle.rules.specs.Links.{k, s, first, sum, most, from, bufferCount, words, LinkNumber}
+use Rattle.rules.specs.Tree.{Buffers, kMerger, linksFrom, treeOf}
 use Rattle.rules.specs.Take.{Taken, insertion, takeAll}
 use Rattle.rules.specs.Queue.{Queue, keyOf, counter, heldFrom}
-use Rattle.rules.specs.Sweep.{outputs, pathInLink, path, counts, runAlong, refillPath, Swept, sweepTo, raised}
+use Rattle.rules.specs.Sweep.{outputs, pathInLink, path, counts, runAlong, sweepTo, raised}
 use Rattle.rules.specs.Insert.{swept}
 use Rattle.rules.specs.Calls.{queueOf}
 use Rattle.rules.proofs.Table.{each-link, k-most}
@@ -29,26 +28,25 @@ use Rattle.rules.proofs.Joins.{join-long}
 use Rattle.rules.proofs.Paths.{link-way, pathInLink-is, fromB}
 use Rattle.rules.proofs.PathCounts.{NotOn, not-on-append, raised-long, raised-before, raised-at, raised-behind}
 use Rattle.rules.proofs.SweepLaws.{sweep-long, run-within, swept-insertion, swept-no-more, swept-lower}
-use Rattle.buffers.specs.Format.{linksIn, counterIn, markIn, countOf, markOf, wordOf, many, bookOf, lentOf, bufferOf, buffersOf}
+use Rattle.buffers.specs.Format.{linksIn, counterIn, markIn, countOf, markOf, wordOf, many, bookOf, lentOf, buffersOf}
 use Rattle.buffers.specs.Post.{Inside}
 use Rattle.buffers.specs.Counters.{HasCounter, CounterPut}
 use Rattle.buffers.proofs.SlotLaws.{behind-book, in-words, some}
 use Rattle.buffers.proofs.ArrayLaws.{has, length-each, each-at, buffer-length, buffers-at, buffers-length, kept-links}
 use Rattle.buffers.proofs.CounterLaws.{has-counter, put-word, put-inside, put-buffers}
-use Rattle.mergers.specs.Fills.{MarksRight, StandsIn}
+use Rattle.mergers.specs.Fills.{MarksRight}
 use Rattle.mergers.proofs.FillLaws.{in-stands}
 use Rattle.runs.specs.Promises.{laidAt, stretch}
 use Rattle.runs.proofs.LayingLaws.{length-laid, laid-outside, laid-there}
-use Rattle.paths.specs.Way.{Before, Ends, PathIs}
+use Rattle.paths.specs.Way.{Ends, PathIs}
 use Rattle.paths.specs.Along.{Noting, Noted, Copied, Gathering, alongFrom}
 use Rattle.paths.specs.Refills.{Refilled}
 use Rattle.paths.proofs.WayLaws.{path-long}
 use Rattle.paths.proofs.CallLaws.{path-on, along-link, last-number, refilling, refilled-state}
-use Rattle.queue.specs.Heads.{CanTake}
 use Rattle.queue.specs.Emptying.{CanEmpty, TookAll}
-use Rattle.queue.specs.Room.{CanMove, RefillingFrom, CanSweep, MadeRoom}
+use Rattle.queue.specs.Room.{RefillingFrom, CanSweep, MadeRoom}
 use Rattle.queue.proofs.EmptyLaws.{all-held}
-use Rattle.queue.proofs.MarkLaws.{marks-fewer, marks-behind, AllOf, all-taken, all-first, all-second, not-on-taken, Clear, AsBefore, marks-way, marks-through}
+use Rattle.queue.proofs.MarkLaws.{marks-fewer, marks-behind, all-taken, all-first, all-second, not-on-taken, Clear, AsBefore, marks-way, marks-through}
 
 -- ---- sizes
 

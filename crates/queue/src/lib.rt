@@ -154,14 +154,14 @@ fn take_all(a: &mut [u64], last: usize, work: &mut [u64]) -> Emptied
     Emptied { count, steps }
 }
 
-// The checks that every call but setup makes first: 2 (296 words), 4 (link number), 2 (its words), 4 (the book).
-fn checked(a: &[u64]) -> Answer
-    ensures { λ r. ⌜ r ≡ firstFailing (arrayChecks (lentOf (now (a .entry))) ((sound (bookOf (now (a .entry))) else Answer.BookBroken) ∷ [])) ⌝ }
+// The array's checks, that every call but setup makes first: 2 (296 words), 4 (link number), 2 (its words).
+fn array_checked(a: &[u64]) -> Answer
+    ensures { λ r. ⌜ r ≡ firstFailing (arrayChecks (lentOf (now (a .entry))) []) ⌝ }
 {
     if a.len() < 296 {
         return Answer::ArrayShort;
     }
-    let l = a[0];
+    let l = buffers::counters::links(a);
     if l < 1 {
         return Answer::BookBroken;
     }
@@ -170,6 +170,17 @@ fn checked(a: &[u64]) -> Answer
     }
     if a.len() < Link::at(l as usize).words() {
         return Answer::ArrayShort;
+    }
+    Answer::Done
+}
+
+// The array's checks, then 4 (the book).
+fn checked(a: &[u64]) -> Answer
+    ensures { λ r. ⌜ r ≡ firstFailing (arrayChecks (lentOf (now (a .entry))) ((sound (bookOf (now (a .entry))) else Answer.BookBroken) ∷ [])) ⌝ }
+{
+    let found = array_checked(a);
+    if rules::number_of(found) != 0 {
+        return found;
     }
     if buffers::sound::book_sound(a) {
         return Answer::Done;
@@ -246,7 +257,7 @@ fn checked_for_take(a: &[u64]) -> Answer
     if rules::number_of(found) != 0 {
         return found;
     }
-    if held_now(a, a[0] as usize) == 0 {
+    if held_now(a, buffers::counters::links(a) as usize) == 0 {
         return Answer::NoneHeld;
     }
     Answer::Done
@@ -260,7 +271,7 @@ pub fn take(a: &mut [u64]) -> Outcome
     if rules::number_of(found) != 0 {
         return refusal(found);
     }
-    let links = a[0] as usize;
+    let links = buffers::counters::links(a) as usize;
     let t = take_one(a, links);
     Outcome {
         answer: Answer::Done,
@@ -290,7 +301,7 @@ pub fn look(a: &mut [u64]) -> Outcome
     if rules::number_of(found) != 0 {
         return refusal(found);
     }
-    let links = a[0] as usize;
+    let links = buffers::counters::links(a) as usize;
     let steps = make_ready(a, links);
     let word = head_now(a, links);
     Outcome {
@@ -309,7 +320,7 @@ pub fn held(a: &[u64]) -> Outcome
     if rules::number_of(found) != 0 {
         return refusal(found);
     }
-    let word = held_now(a, a[0] as usize);
+    let word = held_now(a, buffers::counters::links(a) as usize);
     Outcome {
         answer: Answer::Done,
         word,
@@ -400,25 +411,17 @@ fn pack(a: &mut [u64], links: usize, work: &mut [u64]) -> u64
     emptied.steps
 }
 
-// The checks of insert: 2, 4, 2, 3, 4, 7, 5. The eighth cannot fail where these hold.
+// The checks of insert: the array's, then 3, 4, 7, 5. The eighth cannot fail where these hold.
 fn checked_for_insert(a: &[u64], work: usize, entry: u64) -> Answer
     ensures { λ r. ⌜ r ≡ firstFailing (insertChecks work entry (lentOf (now (a .entry)))) ⌝ }
 {
-    if a.len() < 296 {
-        return Answer::ArrayShort;
+    let found = array_checked(a);
+    if rules::number_of(found) != 0 {
+        return found;
     }
-    let l = buffers::counters::links(a);
-    if l < 1 {
-        return Answer::BookBroken;
-    }
-    if 4 < l {
-        return Answer::BookBroken;
-    }
-    let link = l as usize;
-    if a.len() < Link::at(link).words() {
-        return Answer::ArrayShort;
-    }
-    if work < Link::at(link).most() {
+    let link = buffers::counters::links(a) as usize;
+    let most = Link::at(link).most();
+    if work < most {
         return Answer::WorkShort;
     }
     if !buffers::sound::book_sound(a) {
@@ -427,10 +430,10 @@ fn checked_for_insert(a: &[u64], work: usize, entry: u64) -> Answer
     if 2 < entry / 16777216 % 256 {
         return Answer::DoorAbove;
     }
-    if held_now(a, link) < Link::at(link).most() as u64 {
-        return Answer::Done;
+    if most as u64 <= held_now(a, link) {
+        return Answer::Full;
     }
-    Answer::Full
+    Answer::Done
 }
 
 // What making room in I cost: the merge steps, and whether it packed.

@@ -3,6 +3,7 @@ use mathlib.Core.Path.{sym, _∙_}
 use native.Mathlib.Omega.{arith}
 use Rattle.rules.specs.Calls.{heldCall}
 use Rattle.buffers.specs.Format.{lentOf}
+use Rattle.queue.proofs.CheckLaws.{held-all}
 use Rattle.queue.proofs.CallLaws.{told, held-refused, some-words, held-inside, held-called}
 use borrow.Author.Needs.{needs}
 use Rattle.queue.proofs.held.Statement.{statement}
@@ -19,19 +20,36 @@ refusal-requires c κs = search needs
 
 returns : tie.Need-returns
 returns c =
-    let ws = c .before .before .before .before .before .args .a .now in
+    let el = c .before in
+    let no = el .before in
+    let x = no .before .checked in
+    let ws = no .before .before .before .args .a .now in
     let e = c .refusal .ensures in
-    told ws ws (heldCall (lentOf ws)) (c .before .before .before .checked .result) _ _ _ _ (e .0) (e .1 .0) (e .1 .1 .0) (e .1 .1 .1)
-    (held-refused ws (c .before .before .before .checked .result) (c .before .before .before .checked .ensures) (λ e. c .before .if1 .taken (c .before .before .number-of .ensures ∙ e)))
+    told ws ws (heldCall (lentOf ws)) (x .result) _ _ _ _ (e .0) (e .1 .0) (e .1 .1 .0) (e .1 .1 .1) (held-refused ws (x .result) (x .ensures) (λ e. el .if1 .taken (no .number-of .ensures ∙ e)))
 
-shared-slice-read-held-now : tie.Need-shared-slice-read-held-now
-shared-slice-read-held-now c = some-words (c .before .before .before .before .before .args .a .now) (c .before .before .before .checked .result) (c .before .before .before .checked .ensures) (sym (c .before .before .number-of .ensures) ∙ c .before .if1 .left)
+links-requires : tie.Need-links-requires
+links-requires c κs =
+    let el = c in
+    let no = el .before in
+    let x = no .before .checked in
+    let ws = no .before .before .before .args .a .now in
+    some-words ws (x .result) (x .ensures) (sym (no .number-of .ensures) ∙ el .if1 .left)
 
 held-now-requires : tie.Need-held-now-requires
-held-now-requires c κs = (held-inside (c .before .before .before .before .before .args .a .now) (c .before .before .before .checked .result) (c .before .before .before .checked .ensures) (sym (c .before .before .number-of .ensures) ∙ c .before .if1 .left), omega arith)
+held-now-requires c κs =
+    let el = c .before in
+    let no = el .before in
+    let x = no .before .checked in
+    let ws = no .before .before .before .args .a .now in
+    (held-inside ws (x .result) (x .ensures) (sym (no .number-of .ensures) ∙ el .if1 .left), omega (arith, c .links .ensures))
 
 returns-2 : tie.Need-returns-2
-returns-2 c = held-called (c .before .before .before .before .before .before .args .a .now) (c .before .before .before .before .checked .result) (c .before .before .before .before .checked .ensures) (sym (c .before .before .before .number-of .ensures) ∙ c .before .before .if1 .left) _ (c .held-now .ensures)
+returns-2 c =
+    let el = c .before .before in
+    let no = el .before in
+    let x = no .before .checked in
+    let ws = no .before .before .before .args .a .now in
+    held-called ws (x .result) (x .ensures) (sym (no .number-of .ensures) ∙ el .if1 .left) _ (held-all ws _ _ (c .before .links .ensures) (c .held-now .ensures))
 
 pub held-spec : {M : Type 1} → statement M
 held-spec =
@@ -41,6 +59,6 @@ held-spec =
     number-of-requires
     refusal-requires
     returns
-    shared-slice-read-held-now
+    links-requires
     held-now-requires
     returns-2)

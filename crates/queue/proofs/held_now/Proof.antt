@@ -1,9 +1,8 @@
 -- `held_now` adds up the counts.
-use Prim.Native.Nat.{_-_, _<_}
+use Prim.Native.Nat.{_-_}
 use native.Mathlib.Omega.{arith}
-use Rattle.buffers.specs.Format.{many}
 use Rattle.buffers.proofs.ArrayLaws.{has}
-use Rattle.queue.proofs.CheckLaws.{Summed, sum-start, FirstLinks, first-links, sum-more, sum-all}
+use Rattle.queue.proofs.CheckLaws.{Summed, sum-start, first-links, sum-more, sum-all}
 use Rattle.queue.proofs.held_now.Statement.{statement}
 use Rattle.queue.proofs.held_now.Tie as tie
 

@@ -1,5 +1,5 @@
 -- `look` says what the rules' look does, or gives the first failing check.
-use mathlib.Core.Path.{refl, sym, _∙_}
+use mathlib.Core.Path.{sym, _∙_}
 use Rattle.rules.specs.Calls.{look}
 use Rattle.buffers.specs.Format.{lentOf}
 use Rattle.queue.proofs.HandLaws.{can-now}
@@ -22,25 +22,52 @@ same-length c = search needs
 
 returns : tie.Need-returns
 returns c =
-    let ws = c .before .before .before .before .before .before .args .a .now in
+    let el = c .before in
+    let no = el .before in
+    let x = no .before .checked-for-take in
+    let ws = no .before .before .before .before .args .a .now in
     let e = c .refusal .ensures in
-    told ws ws (look (lentOf ws)) (c .before .before .before .checked-for-take .result) _ _ _ _ (e .0) (e .1 .0) (e .1 .1 .0) (e .1 .1 .1)
-    (look-refused ws (c .before .before .before .checked-for-take .result) (c .before .before .before .checked-for-take .ensures) (λ e. c .before .if1 .taken (c .before .before .number-of .ensures ∙ e)))
+    told ws ws (look (lentOf ws)) (x .result) _ _ _ _ (e .0) (e .1 .0) (e .1 .1 .0) (e .1 .1 .1) (look-refused ws (x .result) (x .ensures) (λ e. el .if1 .taken (no .number-of .ensures ∙ e)))
 
-slice-read-links : tie.Need-slice-read-links
-slice-read-links c = take-some-words (c .before .before .before .before .before .before .args .a .now) (c .before .before .before .checked-for-take .result) (c .before .before .before .checked-for-take .ensures) (sym (c .before .before .number-of .ensures) ∙ c .before .if1 .left)
+links-requires : tie.Need-links-requires
+links-requires c κs =
+    let el = c .before in
+    let no = el .before in
+    let x = no .before .checked-for-take in
+    let ws = no .before .before .before .before .args .a .now in
+    take-some-words ws (x .result) (x .ensures) (sym (no .number-of .ensures) ∙ el .if1 .left)
 
 make-ready-requires : tie.Need-make-ready-requires
-make-ready-requires c κs = may-can (c .before .before .before .before .before .before .before .args .a .now) (c .before .before .before .before .checked-for-take .result) (c .before .before .before .before .checked-for-take .ensures) (sym (c .before .before .before .number-of .ensures) ∙ c .before .before .if1 .left)
+make-ready-requires c κs =
+    let li = c .before in
+    let el = li .before .before in
+    let no = el .before in
+    let x = no .before .checked-for-take in
+    let ws = no .before .before .before .before .args .a .now in
+    may-can ws (x .result) (x .ensures) (sym (no .number-of .ensures) ∙ el .if1 .left) _ (li .links .ensures)
 
 head-now-requires : tie.Need-head-now-requires
-head-now-requires c κs = can-now (c .before .before .before .before .before .before .before .before .before .before .before .args .a .now) _ (may-can (c .before .before .before .before .before .before .before .before .before .before .before .args .a .now) (c .before .before .before .before .before .before .before .before .checked-for-take .result) (c .before .before .before .before .before .before .before .before .checked-for-take .ensures) (sym (c .before .before .before .before .before .before .before .number-of .ensures) ∙ c .before .before .before .before .before .before .if1 .left)) _ _ (c .before .before .before .make-ready .ensures)
+head-now-requires c κs =
+    let ma = c .before .before .before in
+    let li = ma .before .before in
+    let el = li .before .before in
+    let no = el .before in
+    let x = no .before .checked-for-take in
+    let ws = no .before .before .before .before .args .a .now in
+    can-now ws _ (may-can ws (x .result) (x .ensures) (sym (no .number-of .ensures) ∙ el .if1 .left) _ (li .links .ensures)) _ _ (ma .make-ready .ensures)
 
 same-length-2 : tie.Need-same-length-2
 same-length-2 c = search needs
 
 returns-2 : tie.Need-returns-2
-returns-2 c = look-called (c .before .before .before .before .before .before .before .before .before .before .before .before .args .a .now) (c .before .before .before .before .before .before .before .before .before .checked-for-take .result) (c .before .before .before .before .before .before .before .before .before .checked-for-take .ensures) (sym (c .before .before .before .before .before .before .before .before .number-of .ensures) ∙ c .before .before .before .before .before .before .before .if1 .left) _ _ _ (c .before .before .before .before .make-ready .ensures) (c .head-now .ensures)
+returns-2 c =
+    let ma = c .before .before .before .before in
+    let li = ma .before .before in
+    let el = li .before .before in
+    let no = el .before in
+    let x = no .before .checked-for-take in
+    let ws = no .before .before .before .before .args .a .now in
+    look-called ws (x .result) (x .ensures) (sym (no .number-of .ensures) ∙ el .if1 .left) _ (li .links .ensures) _ _ _ (ma .make-ready .ensures) (c .head-now .ensures)
 
 pub look-spec : {M : Type 1} → statement M
 look-spec =
@@ -51,7 +78,7 @@ look-spec =
     refusal-requires
     same-length
     returns
-    slice-read-links
+    links-requires
     make-ready-requires
     head-now-requires
     same-length-2

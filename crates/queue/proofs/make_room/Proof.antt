@@ -1,5 +1,5 @@
 -- One of three: there is room, a packing, a sweep.
-use Rattle.queue.proofs.InsertLaws.{counts-I, some-words, room-there, packed-not, can-sweep, swept-room, swept-packs-not, can-pack, packed-room, packed-packs}
+use Rattle.queue.proofs.InsertLaws.{counts-I, some-words, room-there, packed-not, can-sweep, swept-room, swept-packs-not, packed-room, packed-packs}
 use native.Mathlib.Omega.{arith}
 use borrow.Author.Needs.{needs}
 use Rattle.queue.proofs.make_room.Statement.{statement}

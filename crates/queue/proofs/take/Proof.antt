@@ -1,5 +1,5 @@
 -- `take` hands out what the rules' take does, or gives the first failing check.
-use mathlib.Core.Path.{refl, sym, _∙_}
+use mathlib.Core.Path.{sym, _∙_}
 use Rattle.rules.specs.Calls.{take}
 use Rattle.buffers.specs.Format.{lentOf}
 use Rattle.queue.proofs.CallLaws.{told, take-refused, take-some-words, may-can, take-called}
@@ -21,22 +21,42 @@ same-length c = search needs
 
 returns : tie.Need-returns
 returns c =
-    let ws = c .before .before .before .before .before .before .args .a .now in
+    let el = c .before in
+    let no = el .before in
+    let x = no .before .checked-for-take in
+    let ws = no .before .before .before .before .args .a .now in
     let e = c .refusal .ensures in
-    told ws ws (take (lentOf ws)) (c .before .before .before .checked-for-take .result) _ _ _ _ (e .0) (e .1 .0) (e .1 .1 .0) (e .1 .1 .1)
-    (take-refused ws (c .before .before .before .checked-for-take .result) (c .before .before .before .checked-for-take .ensures) (λ e. c .before .if1 .taken (c .before .before .number-of .ensures ∙ e)))
+    told ws ws (take (lentOf ws)) (x .result) _ _ _ _ (e .0) (e .1 .0) (e .1 .1 .0) (e .1 .1 .1) (take-refused ws (x .result) (x .ensures) (λ e. el .if1 .taken (no .number-of .ensures ∙ e)))
 
-slice-read-links : tie.Need-slice-read-links
-slice-read-links c = take-some-words (c .before .before .before .before .before .before .args .a .now) (c .before .before .before .checked-for-take .result) (c .before .before .before .checked-for-take .ensures) (sym (c .before .before .number-of .ensures) ∙ c .before .if1 .left)
+links-requires : tie.Need-links-requires
+links-requires c κs =
+    let el = c .before in
+    let no = el .before in
+    let x = no .before .checked-for-take in
+    let ws = no .before .before .before .before .args .a .now in
+    take-some-words ws (x .result) (x .ensures) (sym (no .number-of .ensures) ∙ el .if1 .left)
 
 take-one-requires : tie.Need-take-one-requires
-take-one-requires c κs = may-can (c .before .before .before .before .before .before .before .args .a .now) (c .before .before .before .before .checked-for-take .result) (c .before .before .before .before .checked-for-take .ensures) (sym (c .before .before .before .number-of .ensures) ∙ c .before .before .if1 .left)
+take-one-requires c κs =
+    let li = c .before in
+    let el = li .before .before in
+    let no = el .before in
+    let x = no .before .checked-for-take in
+    let ws = no .before .before .before .before .args .a .now in
+    may-can ws (x .result) (x .ensures) (sym (no .number-of .ensures) ∙ el .if1 .left) _ (li .links .ensures)
 
 same-length-2 : tie.Need-same-length-2
 same-length-2 c = search needs
 
 returns-2 : tie.Need-returns-2
-returns-2 c = take-called (c .before .before .before .before .before .before .before .before .before .before .args .a .now) (c .before .before .before .before .before .before .before .checked-for-take .result) (c .before .before .before .before .before .before .before .checked-for-take .ensures) (sym (c .before .before .before .before .before .before .number-of .ensures) ∙ c .before .before .before .before .before .if1 .left) _ _ _ _ (c .before .before .take-one .ensures)
+returns-2 c =
+    let ta = c .before .before in
+    let li = ta .before .before in
+    let el = li .before .before in
+    let no = el .before in
+    let x = no .before .checked-for-take in
+    let ws = no .before .before .before .before .args .a .now in
+    take-called ws (x .result) (x .ensures) (sym (no .number-of .ensures) ∙ el .if1 .left) _ (li .links .ensures) _ _ _ _ (ta .take-one .ensures)
 
 pub take-spec : {M : Type 1} → statement M
 take-spec =
@@ -47,7 +67,7 @@ take-spec =
     refusal-requires
     same-length
     returns
-    slice-read-links
+    links-requires
     take-one-requires
     same-length-2
     returns-2)
