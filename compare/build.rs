@@ -21,7 +21,9 @@ fn main() {
     println!("cargo:rerun-if-env-changed=GORGALHUT_LIB_NAME");
     println!("cargo:rerun-if-changed=build.rs");
     // Calls bring takes with them.
-    let none = !["BOOK", "TAKES", "INSERT"].into_iter().any(feature);
+    let none = !["BOOK", "TAKES", "INSERT", "FRAMES"]
+        .into_iter()
+        .any(feature);
     if none || feature("FAKE") {
         return;
     }

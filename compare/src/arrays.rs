@@ -35,7 +35,7 @@ const TAKES: [Call; 3] = [Call::Take, Call::Look, Call::Held];
 /// The calls of a group to be made on an array, each on a copy of its own.
 fn calls_on(group: Group, source: &mut Arrays, words: &[u64]) -> Vec<Call> {
     match group {
-        Group::Book => Vec::new(),
+        Group::Book | Group::Abuse | Group::Frames => Vec::new(),
         Group::Takes => TAKES.to_vec(),
         Group::Calls => {
             let setup = Call::Setup(source.some_setup(words.len()));
@@ -45,7 +45,7 @@ fn calls_on(group: Group, source: &mut Arrays, words: &[u64]) -> Vec<Call> {
     }
 }
 
-fn some_insert(source: &mut Arrays, words: &[u64]) -> Call {
+pub fn some_insert(source: &mut Arrays, words: &[u64]) -> Call {
     let links = link_number(words).unwrap_or(1 + source.rng().size(3));
     let work_words = source.some_work_words(links).min(MOST_WORK_WORDS);
     Call::Insert(source.some_entry(words), work_words)

@@ -23,12 +23,12 @@ pub struct Memory {
 pub const MOST_WORK_WORDS: usize = 17_280 + 64;
 
 impl Memory {
-    pub fn new(trace: bool) -> Memory {
+    pub fn new(trace: bool, exact: bool) -> Memory {
         assert!(most_held(MOST_LINKS) <= MOST_WORK_WORDS);
         let mut rng = Rng::new(0);
         Memory {
-            array: Lent::new(),
-            work: Lent::new(),
+            array: Lent::new(exact),
+            work: Lent::new(exact),
             work_before: (0..MOST_WORK_WORDS).map(|_| rng.word()).collect(),
             trace,
         }
@@ -67,7 +67,7 @@ impl Memory {
         self.work.load(&self.work_before[..work_words]);
         let got = library::call(&mut self.array, &mut self.work, call, !expected.packed);
         check_results(expected, got)?;
-        if expected.answer != 0 && self.work.words() != &self.work_before[..work_words] {
+        if expected.answer != 0 && self.work.contents() != &self.work_before[..work_words] {
             return Err("a refusal wrote into the work area".to_string());
         }
         if let Some(where_to) = self.work.written_beside() {
@@ -82,7 +82,7 @@ impl Memory {
     /// "Every refusal changes nothing"; "held and audit change nothing".
     fn check_unchanged(&self, before: &[u64]) -> Result<(), String> {
         self.check_beside()?;
-        check_words(before, self.array.words(), 0..before.len(), "word")
+        check_words(before, self.array.contents(), 0..before.len(), "word")
     }
 
     fn check_beside(&self) -> Result<(), String> {
@@ -95,7 +95,7 @@ impl Memory {
     /// After an accepted call that may change the array.
     fn check_changed(&self, before: &[u64], call: Call, queue: &Queue) -> Result<(), String> {
         self.check_beside()?;
-        let words = self.array.words();
+        let words = self.array.contents();
         let found = decode(words);
         if !found.is_queue(queue) {
             return Err(format!(
@@ -125,6 +125,7 @@ fn check_results(expected: &Outcome, got: Got) -> Result<(), String> {
         word: expected.word,
         steps: expected.steps,
         packed: expected.packed,
+        beside: false,
     };
     if got == wanted {
         return Ok(());

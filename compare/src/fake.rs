@@ -5,6 +5,7 @@ use crate::tally::name;
 use reference::array::built::{random_marks, random_starts};
 use reference::array::calls::{expected, Call, Expected};
 use reference::array::{decode, encode, lay, link_number, stretches, verdict, RULES};
+use reference::frames::{answer_line, read_order, write_order, Order};
 use reference::links::{array_words, most_held, BOOK_WORDS};
 use reference::machine::{door, Outcome};
 use reference::queue::{order_kept, Queue};
@@ -121,6 +122,116 @@ unsafe extern "C" fn gorgalhut_audit(
     steps: *mut u64,
 ) -> u8 {
     serve(Call::Audit, without_work(array, words, word, steps))
+}
+
+#[no_mangle]
+unsafe extern "C" fn gorgalhut_read_frame(
+    line: *const u8,
+    bytes: usize,
+    kind: *mut u8,
+    value: *mut u64,
+) -> u8 {
+    let line = std::slice::from_raw_parts(line, bytes);
+    let read = match read_order(line) {
+        None if fault("small-letters") => read_order(&line.to_ascii_uppercase()),
+        read => read,
+    };
+    let (code, number) = match read {
+        Some(Order::Setup(links)) => (0, u64::from(links)),
+        Some(Order::Insert(entry)) => (1, entry),
+        Some(Order::Take) => (2, 0),
+        Some(Order::Look) => (3, 0),
+        Some(Order::Held) => (4, 0),
+        Some(Order::Audit) => (5, 0),
+        None => (0, 0),
+    };
+    *kind = code;
+    *value = number;
+    if read.is_some() {
+        0
+    } else {
+        10
+    }
+}
+
+#[no_mangle]
+unsafe extern "C" fn gorgalhut_write_frame(
+    kind: u8,
+    value: u64,
+    out: *mut u8,
+    bytes: usize,
+    written: *mut usize,
+) -> u8 {
+    let order = match (kind, value) {
+        (0, _) if value < 256 || fault("links-cut") => Some(Order::Setup(value as u8)),
+        (1, _) => Some(Order::Insert(value)),
+        (2, 0) => Some(Order::Take),
+        (3, 0) => Some(Order::Look),
+        (4, 0) => Some(Order::Held),
+        (5, 0) => Some(Order::Audit),
+        _ => None,
+    };
+    lay_line(order.map(write_order), out, bytes, written)
+}
+
+#[no_mangle]
+unsafe extern "C" fn gorgalhut_answer_line(
+    answer: u8,
+    word: u64,
+    steps: u64,
+    out: *mut u8,
+    bytes: usize,
+    written: *mut usize,
+) -> u8 {
+    let outcome = Outcome {
+        answer,
+        word,
+        steps,
+        ..Outcome::default()
+    };
+    let line = (steps <= u64::from(u32::MAX)).then(|| answer_line(&outcome) + "\n");
+    lay_line(line, out, bytes, written)
+}
+
+/// Writes a line where there is one and room for it.
+unsafe fn lay_line(line: Option<String>, out: *mut u8, bytes: usize, written: *mut usize) -> u8 {
+    let room = bytes + usize::from(fault("line-behind"));
+    let Some(line) = line.filter(|line| line.len() <= room) else {
+        *written = 0;
+        return 10;
+    };
+    std::ptr::copy_nonoverlapping(line.as_ptr(), out, line.len());
+    if fault("line-ended") && line.len() < bytes {
+        *out.add(line.len()) = 0;
+    }
+    *written = line.len();
+    0
+}
+
+#[no_mangle]
+unsafe extern "C" fn gorgalhut_tally_add(
+    inserts: *mut u64,
+    takes: *mut u64,
+    steps: *mut u64,
+    packings: *mut u64,
+    call: u8,
+    answer: u8,
+    made: u64,
+    packed: bool,
+) -> bool {
+    let known = call <= 5 && answer <= 10;
+    if known && answer == 0 && call > 0 {
+        let one = |yes| u64::from(yes);
+        *inserts = (*inserts).saturating_add(one(call == 1));
+        *takes = (*takes).saturating_add(one(call == 2));
+        *packings = (*packings).saturating_add(one(call == 1 && packed));
+        *steps = if fault("tally-wraps") {
+            (*steps).wrapping_add(made)
+        } else {
+            (*steps).saturating_add(made)
+        };
+    }
+    known
 }
 
 fn without_work(array: *mut u64, words: usize, word: *mut u64, steps: *mut u64) -> Lent {
@@ -309,6 +420,14 @@ unsafe fn wrong_writes(call: Call, lent: &Lent, result: &Expected) {
     }
     if fault("before") && !refused {
         *lent.array.sub(1) = 1;
+    }
+    if fault("reads-behind") && !refused {
+        // The steps are written again, so that only a tool that watches memory sees it.
+        let read = lent.array.add(words).read_volatile();
+        lent.steps.write_volatile(read);
+    }
+    if fault("word-behind") && !refused {
+        *lent.word.add(1) = 1;
     }
     if fault("behind") && !refused {
         *lent.array.add(words) = 1;

@@ -1,66 +1,95 @@
-//! Memory lent to the library: the words in the middle, canaries on both sides.
+//! Memory lent to the library: what is lent in the middle, canaries on both sides.
 
-/// Words on each side that nobody may write.
+/// Canaries on each side that nobody may write; none where a tool watches instead.
 const CANARIES: usize = 64;
 
-/// Different at each place, so that moved words are seen as well.
-fn canary(at: usize) -> u64 {
-    0xC0DE_CAFE_0000_0000 ^ at as u64
+/// What memory is made of.
+pub trait Unit: Copy + PartialEq {
+    const NAME: &'static str;
+
+    /// Different at each place, so that moved memory is seen as well.
+    fn canary(at: usize) -> Self;
+}
+
+impl Unit for u64 {
+    const NAME: &'static str = "words";
+
+    fn canary(at: usize) -> u64 {
+        0xC0DE_CAFE_0000_0000 ^ at as u64
+    }
+}
+
+impl Unit for u8 {
+    const NAME: &'static str = "bytes";
+
+    fn canary(at: usize) -> u8 {
+        0xC5 ^ at as u8
+    }
 }
 
 /// Memory that is lent again and again, at any length.
-pub struct Lent {
-    memory: Vec<u64>,
+pub struct Lent<T = u64> {
+    memory: Vec<T>,
     length: usize,
+    canaries: usize,
 }
 
-impl Lent {
-    pub fn new() -> Lent {
+impl<T: Unit> Lent<T> {
+    /// `exact`: without canaries, in memory of its own at every load and of just that
+    /// length, so that a tool sees each access beside it, reading ones as well.
+    pub fn new(exact: bool) -> Lent<T> {
         let mut lent = Lent {
             memory: Vec::new(),
             length: 0,
+            canaries: if exact { 0 } else { CANARIES },
         };
         lent.load(&[]);
         lent
     }
 
-    /// Makes these the words to lend.
-    pub fn load(&mut self, words: &[u64]) {
-        self.length = words.len();
-        let whole = words.len() + 2 * CANARIES;
+    /// Makes these the contents to lend.
+    pub fn load(&mut self, contents: &[T]) {
+        self.length = contents.len();
+        if self.canaries == 0 {
+            self.memory = contents.to_vec();
+            return;
+        }
+        let whole = contents.len() + 2 * self.canaries;
         if self.memory.len() < whole {
-            self.memory.resize(whole, 0);
+            self.memory.resize(whole, T::canary(0));
         }
-        self.memory[CANARIES..CANARIES + words.len()].copy_from_slice(words);
-        for at in (0..CANARIES).chain(whole - CANARIES..whole) {
-            self.memory[at] = canary(at);
+        let behind = self.canaries + contents.len();
+        self.memory[self.canaries..behind].copy_from_slice(contents);
+        for at in (0..self.canaries).chain(behind..whole) {
+            self.memory[at] = T::canary(at);
         }
     }
 
-    /// The words that are lent.
-    pub fn words(&self) -> &[u64] {
-        &self.memory[CANARIES..CANARIES + self.length]
+    /// What is lent.
+    pub fn contents(&self) -> &[T] {
+        &self.memory[self.canaries..self.canaries + self.length]
     }
 
-    /// Where the lent words begin; a pointer into the whole memory, so that a write
-    /// beside the words is a fault of the library's and none of ours.
-    pub fn pointer(&mut self) -> *mut u64 {
-        self.memory[..].as_mut_ptr().wrapping_add(CANARIES)
+    /// Where it begins; a pointer into the whole memory, so that a write beside it is
+    /// a fault of the library's and none of ours.
+    pub fn pointer(&mut self) -> *mut T {
+        self.memory[..].as_mut_ptr().wrapping_add(self.canaries)
     }
 
     pub fn length(&self) -> usize {
         self.length
     }
 
-    /// The first canary that was written: how many words before or behind.
+    /// The first canary that was written: how far before or behind.
     pub fn written_beside(&self) -> Option<String> {
-        let behind = CANARIES + self.length;
-        let mut places = (0..CANARIES).chain(behind..behind + CANARIES);
-        let at = places.find(|&at| self.memory[at] != canary(at))?;
-        Some(if at < CANARIES {
-            format!("{} words before", CANARIES - at)
+        let behind = self.canaries + self.length;
+        let mut places = (0..self.canaries).chain(behind..behind + self.canaries);
+        let at = places.find(|&at| self.memory[at] != T::canary(at))?;
+        let name = T::NAME;
+        Some(if at < self.canaries {
+            format!("{} {name} before", self.canaries - at)
         } else {
-            format!("{} words behind", at - behind + 1)
+            format!("{} {name} behind", at - behind + 1)
         })
     }
 }

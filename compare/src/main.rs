@@ -7,10 +7,12 @@
     allow(dead_code)
 )]
 
+mod abuse;
 mod arrays;
 mod check;
 #[cfg(feature = "fake")]
 mod fake;
+mod frames;
 mod lent;
 mod library;
 mod options;
@@ -30,14 +32,21 @@ fn built_in(group: Group) -> bool {
         Group::Takes => cfg!(feature = "takes"),
         Group::Calls => cfg!(feature = "calls"),
         Group::Insert => cfg!(feature = "insert"),
+        Group::Abuse => built_in(Group::Calls) && built_in(Group::Insert),
+        Group::Frames => cfg!(feature = "frames"),
     }
 }
 
 fn compare(options: &Options, tally: &mut Tally) -> Result<(), String> {
-    let mut memory = Memory::new(options.trace);
+    let mut memory = Memory::new(options.trace, options.exact);
+    match options.group {
+        Group::Abuse => return abuse::compare(options, &mut memory, tally),
+        Group::Frames => return frames::compare(options, tally),
+        _ => {}
+    }
     let mut source = arrays::compare(options, &mut memory, tally)?;
     match options.group {
-        Group::Book => Ok(()),
+        Group::Book | Group::Abuse | Group::Frames => Ok(()),
         Group::Takes | Group::Calls => sessions::emptying(options, &mut source, &mut memory, tally),
         Group::Insert if built_in(Group::Calls) => sessions::whole(options, &mut memory, tally),
         Group::Insert => {

@@ -7,6 +7,8 @@ pub enum Group {
     Takes,
     Calls,
     Insert,
+    Abuse,
+    Frames,
 }
 
 #[derive(Clone, Copy, Debug, PartialEq, Eq)]
@@ -18,7 +20,11 @@ pub struct Options {
     pub from: usize,
     /// Calls in sessions; as many as arrays if nothing is said.
     pub session_calls: usize,
+    /// Calls, or lines, of abuse and frames.
+    pub calls: usize,
     pub trace: bool,
+    /// Lends memory without canaries, for a tool that watches its bounds.
+    pub exact: bool,
 }
 
 pub const HELP: &str = "\
@@ -26,10 +32,14 @@ compare book               the verdict on a book
 compare takes              take, look and held
 compare calls              these three, setup and audit
 compare insert             insert, and whole sessions if calls are built in
+compare abuse              all six calls, mixed, on arrays that stay as they were left
+compare frames             lines read and written, and the tally
   --arrays N               how many arrays (1000)
   --seed N                 the seed (1)
   --session-calls N        how many calls in sessions (as many as arrays)
+  --calls N                how many calls of abuse, or lines of frames (1000)
   --from N                 compare from array number N on; those before are only made
+  --exact                  lend memory without canaries, each time of just its length
   --trace                  tell every call on standard error before it is made
 ";
 
@@ -41,7 +51,9 @@ pub fn read_options(arguments: &[String]) -> Result<Options, String> {
         Some("takes") => Group::Takes,
         Some("calls") => Group::Calls,
         Some("insert") => Group::Insert,
-        _ => return Err(format!("book, takes, calls or insert is needed\n{HELP}")),
+        Some("abuse") => Group::Abuse,
+        Some("frames") => Group::Frames,
+        _ => return Err(format!("what to compare is needed\n{HELP}")),
     };
     let mut options = Options {
         group,
@@ -49,15 +61,19 @@ pub fn read_options(arguments: &[String]) -> Result<Options, String> {
         seed: 1,
         from: 0,
         session_calls: 0,
+        calls: 1000,
         trace: false,
+        exact: false,
     };
     let mut session_calls = None;
     while let Some(word) = words.next() {
         match word.as_str() {
             "--arrays" => options.arrays = number(word, words.next())?,
             "--seed" => options.seed = number(word, words.next())?,
+            "--calls" => options.calls = number(word, words.next())?,
             "--from" => options.from = number(word, words.next())?,
             "--session-calls" => session_calls = Some(number(word, words.next())?),
+            "--exact" => options.exact = true,
             "--trace" => options.trace = true,
             _ => return Err(format!("unknown option {word}\n{HELP}")),
         }

@@ -49,7 +49,7 @@ impl<'a> Course<'a> {
                 format!("{name}, call {calls}: {call:x?}: {difference}\nthe array before: {book}")
             })?;
         if changing {
-            self.before.copy_from_slice(self.memory.array.words());
+            self.before.copy_from_slice(self.memory.array.contents());
         }
         self.calls += 1;
         self.tally.add_session_call(call, outcome);

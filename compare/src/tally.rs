@@ -19,6 +19,7 @@ pub struct Tally {
     with_steps: usize,
     steps: u64,
     session_calls: usize,
+    lines: usize,
 }
 
 /// A call's name in the document.
@@ -54,10 +55,22 @@ impl Tally {
         self.add_call(call, outcome);
         self.session_calls += 1;
     }
+
+    /// A line read, an order and an answer line written, and a call told to the tally.
+    pub fn add_line(&mut self) {
+        self.lines += 1;
+    }
 }
 
 impl Display for Tally {
     fn fmt(&self, out: &mut Formatter) -> fmt::Result {
+        if self.lines > 0 {
+            return writeln!(
+                out,
+                "lines, orders, answers and tally calls {} each",
+                self.lines
+            );
+        }
         let arrays: usize = self.links.values().sum();
         writeln!(out, "arrays {arrays}")?;
         for (kind, [refused, sound]) in &self.kinds {

@@ -225,6 +225,52 @@ fn a_difference_is_found_again() {
 }
 
 #[test]
+fn abuse_and_frames() {
+    for (group, told) in [("abuse", "\ncalls 30000, "), ("frames", "\nlines, orders")] {
+        let arguments = [group, "--calls", "30000", "--seed", "3"];
+        let output = compare(&arguments, "");
+        let text = text(&output);
+        assert_eq!(output.status.code(), Some(0), "{text}");
+        assert!(text.contains(told), "{text}");
+        assert!(text.ends_with("no difference\n"), "{text}");
+    }
+    // Without canaries there is nothing else that would differ.
+    let arguments = ["abuse", "--calls", "5000", "--exact"];
+    assert_eq!(compare(&arguments, "").status.code(), Some(0));
+    for (group, fault, report) in [
+        ("abuse", "before", "written 1 words before the array"),
+        ("abuse", "behind", "written 1 words behind the array"),
+        (
+            "abuse",
+            "work-behind",
+            "written 1 words behind the work area",
+        ),
+        (
+            "abuse",
+            "work-refusal",
+            "a refusal wrote into the work area",
+        ),
+        ("abuse", "refusal-writes", "word "),
+        ("abuse", "word-behind", "beside: true"),
+        ("abuse", "steps", "expected Got"),
+        ("abuse", "poured", "expected queue"),
+        ("abuse", "stale-mark", "book rules broken: [Mark]"),
+        ("frames", "small-letters", "expected (a, (0, 0))"),
+        ("frames", "links-cut", "write 0 "),
+        ("frames", "line-behind", "expected Line"),
+        ("frames", "line-ended", "expected ["),
+        ("frames", "tally-wraps", "tally "),
+    ] {
+        let arguments = [group, "--calls", "30000", "--seed", "3"];
+        let output = compare(&arguments, fault);
+        let text = text(&output);
+        assert_eq!(output.status.code(), Some(1), "{group} {fault}: {text}");
+        assert!(text.contains("difference, seed 3, "), "{fault}: {text}");
+        assert!(text.contains(report), "{fault}: {text}");
+    }
+}
+
+#[test]
 fn bad_command_lines() {
     for arguments in [
         &[][..],

@@ -221,7 +221,7 @@ fn lay(code: u64, n: usize, body: u64, out: &mut [u8]) -> Written
     Written::Bytes(end)
 }
 
-fn code_of(order: Order) -> u64
+pub fn code_of(order: Order) -> u64
     ensures { λ r. ⌜ r ≡ codeOf order ⌝ }
 {
     match order {
@@ -234,7 +234,7 @@ fn code_of(order: Order) -> u64
     }
 }
 
-fn body_of(order: Order) -> u64
+pub fn body_of(order: Order) -> u64
     ensures { λ r. ⌜ r ≡ bodyOf order ⌝ }
 {
     match order {

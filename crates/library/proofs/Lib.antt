@@ -1,1 +1,3 @@
 pub mod AnsweredLaws
+pub mod NumberedLaws
+pub mod FramedLaws

@@ -79,6 +79,24 @@ impl Arrays {
         Sample { kind, words }
     }
 
+    /// The next array to be abused: mostly one that a careful caller would not lend.
+    pub fn next_abused(&mut self) -> Sample {
+        let links = self.some_links();
+        let kind = match self.rng.below(100) {
+            0..=9 => Kind::Session,
+            10..=29 => Kind::Disordered,
+            30..=39 => Kind::Built,
+            40..=49 => Kind::Near,
+            50..=54 => Kind::NearOrder,
+            55..=74 => Kind::Damaged,
+            75..=89 => Kind::Short,
+            90 => Kind::Zeros,
+            _ => Kind::Noise,
+        };
+        let words = self.array_of(kind, links);
+        Sample { kind, words }
+    }
+
     /// Few of 4 links, which take most of the time.
     fn some_links(&mut self) -> usize {
         match self.rng.below(100) {

@@ -1,0 +1,53 @@
+-- Calls and answers by their numbers, for the day tally.
+use Prim.Native.Nat.{ℕ}
+use mathlib.Core.Bool.{Bool, cond}
+use lib.Dec.{eqb, leb}
+use Rattle.rules.specs.Tests.{_and_}
+use Rattle.rules.specs.declared.Answer.{Answer}
+use Rattle.rules.specs.declared.Answer.the-variants.{Done, NoSuchLinks, ArrayShort, WorkShort, BookBroken, Full, NoneHeld, DoorAbove, NoPlace, OrderBroken, NotAFrame}
+use Rattle.tally.specs.declared.Call.{Call}
+use Rattle.tally.specs.declared.Call.the-variants.{Setup, Insert, Take, Look, Held, Audit}
+use Rattle.tally.specs.declared.Tally.{Tally}
+use Rattle.tally.specs.Day.{upToDate}
+
+-- "00 .. setup. 01 .. insert. 02 take, 03 look, 04 held, 05 audit"
+unfoldable pub callOf : ℕ → Call
+callOf n =
+    cond (eqb n 0) Setup
+    (cond (eqb n 1) Insert
+    (cond (eqb n 2) Take
+    (cond (eqb n 3) Look
+    (cond (eqb n 4) Held
+    Audit))))
+
+abbrev pub callNumber : Call → ℕ
+callNumber Setup = 0
+callNumber Insert = 1
+callNumber Take = 2
+callNumber Look = 3
+callNumber Held = 4
+callNumber Audit = 5
+
+-- the numbers that come back
+unfoldable pub answerOf : ℕ → Answer
+answerOf n =
+    cond (eqb n 0) Done
+    (cond (eqb n 1) NoSuchLinks
+    (cond (eqb n 2) ArrayShort
+    (cond (eqb n 3) WorkShort
+    (cond (eqb n 4) BookBroken
+    (cond (eqb n 5) Full
+    (cond (eqb n 6) NoneHeld
+    (cond (eqb n 7) DoorAbove
+    (cond (eqb n 8) NoPlace
+    (cond (eqb n 9) OrderBroken
+    NotAFrame)))))))))
+
+-- a call and an answer have these numbers
+abbrev pub named : ℕ → ℕ → Bool
+named call answer = leb call 5 and leb answer 10
+
+-- the tally after a call; numbers that name none add nothing
+unfoldable pub tallied : Tally → ℕ → ℕ → ℕ → Bool → Tally
+unfolding callOf answerOf upToDate
+tallied tally call answer steps packed = cond (named call answer) (upToDate tally (callOf call) (record { answer = answerOf answer; steps = steps; packed = packed })) tally

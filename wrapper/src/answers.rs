@@ -1,0 +1,93 @@
+//! The numbers that come back.
+
+use std::error::Error;
+use std::fmt::{self, Display, Formatter};
+
+/// Why nothing was done. A refusal changes nothing that was lent.
+#[derive(Clone, Copy, Debug, PartialEq, Eq, Hash)]
+pub enum Refusal {
+    /// 1: links not 1 to 4.
+    NoSuchLinks,
+    /// 2: the array is shorter than 296 words, or than its links need.
+    ArrayShort,
+    /// 3: the work area is shorter than its links need.
+    WorkShort,
+    /// 4: the array's book breaks a book rule: no setup yet, or damaged.
+    BookBroken,
+    /// 5: as many entries are held as its links can hold.
+    Full,
+    /// 6: no entry is held.
+    NoneHeld,
+    /// 7: the entry's door byte is above 2.
+    DoorAbove,
+    /// 8: the rest of a sweep or a packing has no place; proved never to come.
+    NoPlace,
+    /// 9: the book is sound, but entries are out of order.
+    OrderBroken,
+    /// 10: not a frame, not an order that can be written, or too short a buffer.
+    NotAFrame,
+}
+
+/// What a call comes to.
+pub type Result<T> = std::result::Result<T, Refusal>;
+
+const ALL: [Refusal; 10] = [
+    Refusal::NoSuchLinks,
+    Refusal::ArrayShort,
+    Refusal::WorkShort,
+    Refusal::BookBroken,
+    Refusal::Full,
+    Refusal::NoneHeld,
+    Refusal::DoorAbove,
+    Refusal::NoPlace,
+    Refusal::OrderBroken,
+    Refusal::NotAFrame,
+];
+
+impl Refusal {
+    /// The number on paper, 1 to 10.
+    pub fn number(self) -> u8 {
+        1 + self as u8
+    }
+
+    /// The refusal of a number; none for 0, which is done, and for numbers above 10.
+    pub fn of_number(number: u8) -> Option<Refusal> {
+        let at = usize::from(number).checked_sub(1)?;
+        ALL.get(at).copied()
+    }
+}
+
+/// Turns an answer's number into a result.
+pub(crate) fn settle(number: u8) -> Result<()> {
+    match number {
+        0 => Ok(()),
+        _ => Err(Refusal::of_number(number).expect("the library answers 0 to 10")),
+    }
+}
+
+/// The number of a result: 0, or its refusal's.
+pub(crate) fn number_of<T>(result: &Result<T>) -> u8 {
+    match result {
+        Ok(_) => 0,
+        Err(refusal) => refusal.number(),
+    }
+}
+
+impl Display for Refusal {
+    fn fmt(&self, out: &mut Formatter) -> fmt::Result {
+        out.write_str(match self {
+            Refusal::NoSuchLinks => "links are not 1 to 4",
+            Refusal::ArrayShort => "the array is too short",
+            Refusal::WorkShort => "the work area is too short",
+            Refusal::BookBroken => "the book breaks a book rule",
+            Refusal::Full => "the queue is full",
+            Refusal::NoneHeld => "no entry is held",
+            Refusal::DoorAbove => "the door is above 2",
+            Refusal::NoPlace => "the rest of a sweep or packing has no place",
+            Refusal::OrderBroken => "entries are out of order",
+            Refusal::NotAFrame => "not a frame",
+        })
+    }
+}
+
+impl Error for Refusal {}
