@@ -1,0 +1,146 @@
+-- The loop over a piece: what it has answered so far.
+use mathlib.Core.Path.{_≡_, refl, sym, ap, _∙_, subst}
+use mathlib.Core.Bool.{Bool, true, false, cond}
+use mathlib.Core.List.{List, [], _∷_, _++_, append-assoc, append-nil}
+use mathlib.Core.Logic.{_⊎_, inl, inr}
+use Prim.Native.Nat.{ℕ, zero, suc, _+_, _-_, _*_, _≤_, _<_}
+use native.Mathlib.Omega.{arith}
+use lib.Dec.{eqb}
+use lib.ListN.{length, take, drop, length-append, length-drop, take-append-drop}
+use lib.Seq.{drop-drop, take-add, take-at, drop-at, length-take-le}
+use Rattle.frames.specs.Answers.{Back}
+use Rattle.frames.specs.declared.Order.{Order}
+use Rattle.lines.specs.Lines.{endedBy}
+use Rattle.lines.specs.Answers.{endedBack, nextBack}
+use Rattle.lines.specs.Cutter.{kept, feedOf, keptAfter, ordersFrom, Step, nextOf}
+use Rattle.lines.specs.declared.Next.{Next}
+use Rattle.lines.proofs.LineLaws.{by-end}
+use Rattle.lines.proofs.Pieces.{orders-append, kept-append}
+use Rattle.sessions.specs.Runs.{Runs, ends, ServedAt, between, PieceRan}
+use Rattle.sessions.proofs.RunLaws.{runs-append}
+
+-- ---- what a search for the next line end has read
+
+-- so many bytes, at least one if there is any
+record Eaten (k : List ℕ) (at : ℕ) (bs : List ℕ) (s : Step) : Type 0 where
+  many : ℕ
+  place : s .at ≡ at + many
+  some : 0 < length bs → 0 < many
+  fits : many ≤ length bs
+  orders : s .cut .orders ≡ ordersFrom k (take many bs)
+  keeps : s .cut .keeps ≡ keptAfter k (take many bs)
+
+module _ (k : List ℕ) (at b : ℕ) (bs : List ℕ) where
+  eaten-end : Eaten k at (b ∷ bs) (record { at = at + 1; cut = feedOf k b })
+  unfolding ordersFrom keptAfter
+  eaten-end = record {
+    many = 1;
+    place = refl;
+    some = λ h. omega arith;
+    fits = omega arith;
+    orders = sym (append-nil (feedOf k b .orders));
+    keeps = refl;
+  }
+
+  eaten-past : eqb b 10 ≡ false → (s : Step) → Eaten (feedOf k b .keeps) (at + 1) bs s → Eaten k at (b ∷ bs) s
+  unfolding ordersFrom keptAfter endedBy
+  eaten-past t s e = record {
+    many = suc (e .many);
+    place = omega (arith, e .place);
+    some = λ h. omega arith;
+    fits = omega (arith, e .fits);
+    orders = rw t (e .orders);
+    keeps = e .keeps;
+  }
+
+eaten : (k : List ℕ) (at : ℕ) (bs : List ℕ) → Eaten k at bs (nextOf k at bs)
+unfolding nextOf ordersFrom keptAfter
+eaten k at [] = record { many = 0; place = omega arith; some = λ h. h; fits = omega arith; orders = refl; keeps = refl }
+eaten k at (b ∷ bs) =
+    let next = nextOf (feedOf k b .keeps) (at + 1) bs in
+    by-end (λ (t : Bool). Eaten k at (b ∷ bs) (cond t (record { at = at + 1; cut = feedOf k b }) next)) b
+    (λ t. eaten-end k at b bs) (λ t. eaten-past k at b bs t next (eaten (feedOf k b .keeps) (at + 1) bs))
+
+-- the same by places of a piece
+record Reads (k piece : List ℕ) (at : ℕ) (s : Step) : Type 0 where
+  further : at < length piece → at < s .at
+  behind : at ≤ s .at
+  orders : s .cut .orders ≡ ordersFrom k (between at (s .at) piece)
+  keeps : s .cut .keeps ≡ keptAfter k (between at (s .at) piece)
+
+reads-next : (k piece : List ℕ) (at : ℕ) (s : Step) → s ≡ nextOf k at (drop at piece) → Reads k piece at s
+reads-next k piece at s e =
+    let z : Eaten k at (drop at piece) s = subst (Eaten k at (drop at piece)) (sym e) (eaten k at (drop at piece)) in
+    let many : z .many ≡ s .at - at = omega (arith, z .place) in
+    record {
+      further = λ h. omega (arith, z .place, z .some (omega (arith, length-drop at piece)));
+      behind = omega (arith, z .place);
+      orders = z .orders ∙ ap (λ (n : ℕ). ordersFrom k (take n (drop at piece))) many;
+      keeps = z .keeps ∙ ap (λ (n : ℕ). keptAfter k (take n (drop at piece))) many;
+    }
+
+-- ---- two stretches of a piece, one behind the other
+
+between-join : (piece : List ℕ) (a b c : ℕ) → a ≤ b → b ≤ c → between a c piece ≡ between a b piece ++ between b c piece
+between-join piece a b c p q =
+    let all : c - a ≡ b - a + (c - b) = omega arith in
+    let there : a + (b - a) ≡ b = omega arith in
+    ap (λ (n : ℕ). take n (drop a piece)) all ∙ take-add (b - a) (c - b) (drop a piece)
+    ∙ ap (λ (z : List ℕ). between a b piece ++ take (c - b) z) (drop-drop (b - a) a piece ∙ ap (λ (n : ℕ). drop n piece) there)
+
+-- ---- the loop
+
+pub ran-starts : (work : ℕ) (ws k piece : List ℕ) (at : ℕ) (out : List ℕ) → PieceRan work ws ws k piece at out out k at 0
+unfolding ordersFrom keptAfter
+ran-starts work ws k piece at out =
+    let none : at - at ≡ 0 = omega arith in
+    record {
+      forth = omega arith;
+      keeps = sym (ap (λ (n : ℕ). keptAfter k (take n (drop at piece))) none);
+      bytes = [];
+      run = subst (λ (n : ℕ). Runs work ws (ordersFrom k (take n (drop at piece))) ws []) (sym none) (ends ws);
+      count = refl;
+      inside = omega arith;
+      after = refl;
+    }
+
+module _ (work : ℕ) (ws now later k piece : List ℕ) (at : ℕ) (out out₁ out₂ k₁ : List ℕ) (i n m : ℕ) (ran : PieceRan work ws now k piece at out out₁ k₁ i n)
+    (r : Next) (next : nextBack r ≡ nextOf k₁ i (drop i piece)) (served : ServedAt work now later (endedBack (r .ended)) out₁ out₂ n m) where
+  pub ran-further : i < length piece → i < r .at
+  ran-further h = reads-next k₁ piece i (nextBack r) next .further h
+
+  same-room : length out₁ ≡ length out
+  same-room = ap length (ran .after) ∙ length-append (ran .bytes) (drop n out) ∙ omega (arith, ran .count, ran .inside, length-drop n out)
+
+  pub ran-inside : length out₁ ≡ length out → m ≤ length out
+  ran-inside e = omega (arith, served .inside)
+
+  pub ran-on : PieceRan work ws later k piece at out out₂ (kept (r .cutter)) (r .at) m
+  ran-on =
+      let z = reads-next k₁ piece i (nextBack r) next in
+      let join : between at (r .at) piece ≡ between at i piece ++ between i (r .at) piece = between-join piece at i (r .at) (ran .forth) (z .behind) in
+      let head : take n out₁ ≡ ran .bytes = ap (take n) (ran .after) ∙ take-at (ran .bytes) (drop n out) n (sym (ran .count)) in
+      let past : n + length (served .bytes) ≡ m = sym (served .count) in
+      let tail : drop m out₁ ≡ drop m out =
+      ap (λ (l : ℕ). drop l out₁) (sym past) ∙ sym (drop-drop (length (served .bytes)) n out₁)
+      ∙ ap (drop (length (served .bytes))) (ap (drop n) (ran .after) ∙ drop-at (ran .bytes) (drop n out) n (sym (ran .count)))
+      ∙ drop-drop (length (served .bytes)) n out ∙ ap (λ (l : ℕ). drop l out) past in
+      record {
+        forth = omega (arith, ran .forth, z .behind);
+        keeps =
+        z .keeps ∙ ap (λ (l : List ℕ). keptAfter l (between i (r .at) piece)) (ran .keeps)
+        ∙ sym (ap (keptAfter k) join ∙ kept-append k (between at i piece) (between i (r .at) piece));
+        bytes = ran .bytes ++ served .bytes;
+        run = subst (λ (reads : List (Back Order)). Runs work ws reads later (ran .bytes ++ served .bytes)) (all z join) (runs-append (ran .run) (served .run));
+        count = served .count ∙ sym (length-append (ran .bytes) (served .bytes) ∙ omega (arith, ran .count));
+        inside = omega (arith, served .inside, same-room);
+        after =
+        served .after ∙ ap (λ (l : List ℕ). l ++ (served .bytes ++ drop m out₁)) head ∙ ap (λ (l : List ℕ). ran .bytes ++ (served .bytes ++ l)) tail
+        ∙ sym (append-assoc (ran .bytes) (served .bytes) (drop m out));
+      }
+    where
+      all : Reads k₁ piece i (nextBack r) → between at (r .at) piece ≡ between at i piece ++ between i (r .at) piece
+          → ordersFrom k (between at i piece) ++ endedBack (r .ended) ≡ ordersFrom k (between at (r .at) piece)
+      all z join =
+          ap (λ (l : List (Back Order)). ordersFrom k (between at i piece) ++ l) (z .orders ∙ ap (λ (l : List ℕ). ordersFrom l (between i (r .at) piece)) (ran .keeps))
+          ∙ sym (ap (ordersFrom k) join ∙ orders-append k (between at i piece) (between i (r .at) piece))
