@@ -104,16 +104,16 @@ ran-starts work ws k piece at out =
       after = refl;
     }
 
-module _ (work : ℕ) (ws now later k piece : List ℕ) (at : ℕ) (out out₁ out₂ k₁ : List ℕ) (i n m : ℕ) (ran : PieceRan work ws now k piece at out out₁ k₁ i n)
-    (r : Next) (next : nextBack r ≡ nextOf k₁ i (drop i piece)) (served : ServedAt work now later (endedBack (r .ended)) out₁ out₂ n m) where
-  pub ran-further : i < length piece → i < r .at
-  ran-further h = reads-next k₁ piece i (nextBack r) next .further h
+pub ran-further : (k piece : List ℕ) (i : ℕ) (r : Next) → nextBack r ≡ nextOf k i (drop i piece) → i < length piece → i < r .at
+ran-further k piece i r next h = reads-next k piece i (nextBack r) next .further h
+
+module _ (work work′ : ℕ) (ws now later k piece : List ℕ) (at : ℕ) (out out₁ out₂ k₁ : List ℕ) (i n m : ℕ) (ran : PieceRan work ws now k piece at out out₁ k₁ i n)
+    (r : Next) (next : nextBack r ≡ nextOf k₁ i (drop i piece)) (same : work′ ≡ work) (served′ : ServedAt work′ now later (endedBack (r .ended)) out₁ out₂ n m) where
+  served : ServedAt work now later (endedBack (r .ended)) out₁ out₂ n m
+  served = subst (λ (w : ℕ). ServedAt w now later (endedBack (r .ended)) out₁ out₂ n m) same served′
 
   same-room : length out₁ ≡ length out
   same-room = ap length (ran .after) ∙ length-append (ran .bytes) (drop n out) ∙ omega (arith, ran .count, ran .inside, length-drop n out)
-
-  pub ran-inside : length out₁ ≡ length out → m ≤ length out
-  ran-inside e = omega (arith, served .inside)
 
   pub ran-on : PieceRan work ws later k piece at out out₂ (kept (r .cutter)) (r .at) m
   ran-on =
@@ -128,15 +128,15 @@ module _ (work : ℕ) (ws now later k piece : List ℕ) (at : ℕ) (out out₁ o
       record {
         forth = omega (arith, ran .forth, z .behind);
         keeps =
-        z .keeps ∙ ap (λ (l : List ℕ). keptAfter l (between i (r .at) piece)) (ran .keeps)
-        ∙ sym (ap (keptAfter k) join ∙ kept-append k (between at i piece) (between i (r .at) piece));
+            z .keeps ∙ ap (λ (l : List ℕ). keptAfter l (between i (r .at) piece)) (ran .keeps)
+            ∙ sym (ap (keptAfter k) join ∙ kept-append k (between at i piece) (between i (r .at) piece));
         bytes = ran .bytes ++ served .bytes;
         run = subst (λ (reads : List (Back Order)). Runs work ws reads later (ran .bytes ++ served .bytes)) (all z join) (runs-append (ran .run) (served .run));
         count = served .count ∙ sym (length-append (ran .bytes) (served .bytes) ∙ omega (arith, ran .count));
         inside = omega (arith, served .inside, same-room);
         after =
-        served .after ∙ ap (λ (l : List ℕ). l ++ (served .bytes ++ drop m out₁)) head ∙ ap (λ (l : List ℕ). ran .bytes ++ (served .bytes ++ l)) tail
-        ∙ sym (append-assoc (ran .bytes) (served .bytes) (drop m out));
+            served .after ∙ ap (λ (l : List ℕ). l ++ (served .bytes ++ drop m out₁)) head ∙ ap (λ (l : List ℕ). ran .bytes ++ (served .bytes ++ l)) tail
+            ∙ sym (append-assoc (ran .bytes) (served .bytes) (drop m out));
       }
     where
       all : Reads k₁ piece i (nextBack r) → between at (r .at) piece ≡ between at i piece ++ between i (r .at) piece

@@ -108,14 +108,24 @@ pub struct Ran {
 }
 
 // Answers the lines of a piece from a place on, until the piece ends or there is no room for another answer.
-pub fn run_piece(a: &mut [u64], work: &mut [u64], cutter: Cutter, piece: &[u8], at: usize, out: &mut [u8]) -> Ran
+pub fn run_piece(
+    a: &mut [u64],
+    work: &mut [u64],
+    cutter: Cutter,
+    piece: &[u8],
+    at: usize,
+    out: &mut [u8],
+) -> Ran
     ensures { λ r. ⌜ PieceRan (length (now (work .entry))) (now (a .entry)) (now (a .exit)) (kept cutter) (now (piece .entry)) at (now (out .entry)) (now (out .exit)) (kept (r .cutter)) (r .at) (r .written) ⌝ }
     ensures { λ r. ⌜ NoMore (now (piece .entry)) (r .at) (now (out .entry)) (r .written) ⌝ }
 {
     let mut so_far = cutter;
     let mut i = at;
     let mut written: usize = 0;
-    while i < piece.len() && LINE <= out.len() - written {
+    while i < piece.len() {
+        if out.len() - written < LINE {
+            break;
+        }
         let next = lines::next_line(so_far, piece, i);
         so_far = next.cutter;
         i = next.at;
