@@ -5,6 +5,7 @@ ghost use lib.ListN.{drop};
 ghost use Rattle.frames.specs.Answers.{readBack};
 ghost use Rattle.frames.specs.Frames.{readOf};
 ghost use Rattle.lines.specs.Cutter.{decisive, kept, feedOf, lastOf, nextOf};
+ghost use Rattle.lines.specs.Lines.{EndsAt};
 ghost use Rattle.lines.specs.Answers.{endedBack, fedBack, nextBack};
 
 const LINE_END: u8 = 10;
@@ -97,8 +98,22 @@ pub fn finish(cutter: Cutter) -> Ended
     Ended::Line(line_read(cutter))
 }
 
-// Feeds a piece from a place on, until a line ends or the piece does.
-pub fn next_line(cutter: Cutter, piece: &[u8], at: usize) -> Next
+// The place of the first line end of a piece from a place on, or the place where the piece ends.
+fn end_from(piece: &[u8], at: usize) -> usize
+    ensures { λ r. ⌜ EndsAt (now (piece .entry)) at r ⌝ }
+{
+    let mut i = at;
+    while i < piece.len() {
+        if piece[i] == LINE_END {
+            return i;
+        }
+        i += 1;
+    }
+    i
+}
+
+// Feeds a piece byte by byte from a place on, until a line ends or the piece does.
+fn feed_from(cutter: Cutter, piece: &[u8], at: usize) -> Next
     ensures { λ r. ⌜ nextBack r ≡ nextOf (kept cutter) at (drop at (now (piece .entry))) ⌝ }
 {
     let mut so_far = cutter;
@@ -122,4 +137,22 @@ pub fn next_line(cutter: Cutter, piece: &[u8], at: usize) -> Next
         at: i,
         ended: Ended::Nothing,
     }
+}
+
+// The next line of a piece from a place on, or what the piece has of it. A line that stands whole in the piece is read where it stands.
+pub fn next_line(cutter: Cutter, piece: &[u8], at: usize) -> Next
+    ensures { λ r. ⌜ nextBack r ≡ nextOf (kept cutter) at (drop at (now (piece .entry))) ⌝ }
+{
+    if cutter.len == 0 {
+        let end = end_from(piece, at);
+        if end < piece.len() {
+            let read = frames::read(&piece[at..end]);
+            return Next {
+                cutter,
+                at: end + 1,
+                ended: Ended::Line(read),
+            };
+        }
+    }
+    feed_from(cutter, piece, at)
 }

@@ -10,13 +10,13 @@ use lib.ListN.{length, take, drop, length-append, length-drop, take-append-drop}
 use lib.Seq.{drop-drop, take-add, take-at, drop-at, length-take-le}
 use Rattle.frames.specs.Answers.{Back}
 use Rattle.frames.specs.declared.Order.{Order}
-use Rattle.lines.specs.Lines.{endedBy}
+use Rattle.lines.specs.Lines.{endedBy, between}
 use Rattle.lines.specs.Answers.{endedBack, nextBack}
 use Rattle.lines.specs.Cutter.{kept, feedOf, keptAfter, ordersFrom, Step, nextOf}
 use Rattle.lines.specs.declared.Next.{Next}
 use Rattle.lines.proofs.LineLaws.{by-end}
 use Rattle.lines.proofs.Pieces.{orders-append, kept-append}
-use Rattle.sessions.specs.Runs.{Runs, ends, ServedAt, between, PieceRan}
+use Rattle.sessions.specs.Runs.{Runs, ends, ServedAt, PieceRan}
 use Rattle.sessions.proofs.RunLaws.{runs-append}
 
 -- ---- what a search for the next line end has read

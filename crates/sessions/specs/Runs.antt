@@ -2,7 +2,7 @@
 use mathlib.Core.Path.{_≡_}
 use mathlib.Core.Logic.{_⊎_}
 use mathlib.Core.List.{List, [], _∷_, _++_}
-use Prim.Native.Nat.{ℕ, _+_, _-_, _*_, _≤_, _<_}
+use Prim.Native.Nat.{ℕ, _+_, _*_, _≤_, _<_}
 use lib.ListN.{length, take, drop}
 use Rattle.rules.specs.declared.Answer.the-variants.{NotAFrame}
 use Rattle.rules.specs.Answers.{numberOf}
@@ -15,7 +15,8 @@ use Rattle.frames.specs.declared.Order.{Order}
 use Rattle.frames.specs.declared.Order.the-variants.{Setup, Insert, Take, Look, Held, Audit}
 use Rattle.frames.specs.declared.Written.{Written}
 use Rattle.frames.specs.declared.Written.the-variants.{Bytes, Refused}
-use Rattle.lines.specs.Cutter.{keptAfter, ordersFrom, lastOf}
+use Rattle.lines.specs.Lines.{between}
+use Rattle.lines.specs.Cutter.{keptAfter, ordersFrom}
 use Rattle.buffers.specs.Format.{lentOf}
 use Rattle.queue.specs.Calls.{Called}
 
@@ -74,10 +75,6 @@ pub record ServedAt (work : ℕ) (ws ws′ : List ℕ) (reads : List (Back Order
   pub count : end ≡ at + length bytes
   pub inside : end ≤ length out
   pub after : out′ ≡ take at out ++ (bytes ++ drop end out)
-
--- the bytes of a piece from one place to another
-abbrev pub between : ℕ → ℕ → List ℕ → List ℕ
-between at end piece = take (end - at) (drop at piece)
 
 -- the lines that end between two places of a piece, answered; k and k′ are what is kept of the line so far, before and behind
 pub record PieceRan (work : ℕ) (ws ws′ k piece : List ℕ) (at : ℕ) (out out′ k′ : List ℕ) (at′ written : ℕ) : Type 0 where

@@ -1,55 +1,48 @@
-use Prim.Native.Nat.{_-_}
+use mathlib.Core.Path.{_≡_, ap}
 use native.Mathlib.Omega.{arith}
-use mathlib.Core.Path.{refl}
-use lib.ListN.{length}
-use Rattle.lines.specs.Cutter.{kept}
-use Rattle.lines.proofs.NextLaws.{Feeding, feeding-starts, feeds-on, feeds-end, feeds-all}
+use lib.ListN.{take}
+use borrow.Author.Needs.{needs}
 use Rattle.lines.proofs.next_line.Statement.{statement}
 use Rattle.lines.proofs.next_line.Tie as tie
+use Rattle.lines.proofs.WholeLaws.{whole-line}
 
-abbrev Inv-loop : tie.InvT-loop
-Inv-loop piece at so-far₀ i₀ so-far i = Feeding piece (kept so-far₀) at (kept so-far) i
+end-from-requires : tie.Need-end-from-requires
+end-from-requires c κs = search needs
 
-abbrev μ-loop : tie.MeasureT-loop
-μ-loop piece at so-far₀ i₀ so-far i = length piece - i
+sub-read : tie.Need-sub-read
+sub-read c = search needs
 
-loop-holds : tie.Need-loop-holds Inv-loop μ-loop
-loop-holds c = feeding-starts _ _ _
+part-read-start : tie.Need-part-read-start
+part-read-start c = search needs
 
-shared-slice-read-byte : tie.Need-shared-slice-read-byte Inv-loop μ-loop
-shared-slice-read-byte c = omega arith
+part-read-end : tie.Need-part-read-end
+part-read-end c = search needs
 
-feed-requires : tie.Need-feed-requires Inv-loop μ-loop
-feed-requires c κs = tt
+read-requires : tie.Need-read-requires
+read-requires c κs = search needs
 
-add-i : tie.Need-add-i Inv-loop μ-loop
-add-i c = omega arith
+add-t10 : tie.Need-add-t10
+add-t10 c = search needs
 
-returns : tie.Need-returns Inv-loop μ-loop
-returns c =
-    feeds-end _ _ _ _ _ (c .before .before .before .before .before .loop .inv) _ (omega arith) refl (omega arith) (c .before .before .feed .result) (c .before .before .feed .ensures)
+returns : tie.Need-returns
+returns c = let z : c .before .before .before .before .before .before .before .args .cutter .len ≡ 0 = omega arith in whole-line _ _ _ (c .before .before .before .end-from .ensures) (omega arith) (c .before .before .before .before .before .before .before .args .cutter) (c .read .result) (ap (λ n. take n (c .before .before .before .before .before .before .before .args .cutter .bytes)) z) (c .read .ensures)
 
-loop-less : tie.Need-loop-less Inv-loop μ-loop
-loop-less c = omega arith
+feed-from-requires : tie.Need-feed-from-requires
+feed-from-requires c κs = search needs
 
-loop-again : tie.Need-loop-again Inv-loop μ-loop
-loop-again c =
-    feeds-on _ _ _ _ _ (c .before .before .before .before .before .loop .inv) _ (omega arith) refl (λ e. omega arith) (c .before .before .feed .result) (c .before .before .feed .ensures)
-
-returns-2 : tie.Need-returns-2 Inv-loop μ-loop
-returns-2 c = feeds-all _ _ _ _ _ (c .before .loop .inv) (omega arith) (c .before .loop .so-far) refl
+returns-2 : tie.Need-returns-2
+returns-2 c = search needs
 
 pub next-line-spec : {M : Type 1} → statement M
 next-line-spec =
     tie.close
     (tie.spec
-    Inv-loop
-    μ-loop
-    loop-holds
-    shared-slice-read-byte
-    feed-requires
-    add-i
+    end-from-requires
+    sub-read
+    part-read-start
+    part-read-end
+    read-requires
+    add-t10
     returns
-    loop-less
-    loop-again
+    feed-from-requires
     returns-2)
