@@ -5,10 +5,14 @@ use mathlib.Core.List.{List, [], _∷_, _++_, append-assoc, append-nil}
 use mathlib.Core.Logic.{_⊎_, inl, inr}
 use Prim.Native.Nat.{ℕ, zero, suc, _+_, _-_, _*_, _≤_, _<_}
 use native.Mathlib.Omega.{arith}
+use native.Mathlib.Decide.{decLt, ℕ-discrete}
 use lib.Dec.{eqb}
 use lib.ListN.{length, take, drop, length-append, length-drop, take-append-drop}
 use lib.Seq.{drop-drop, take-add, take-at, drop-at, length-take-le}
-use Rattle.frames.specs.Answers.{Back}
+use Rattle.frames.specs.Answers.{Back, writtenBack}
+use Rattle.frames.specs.declared.Written.{Written}
+use Rattle.frames.specs.declared.Written.the-variants.{Bytes}
+use Rattle.frames.proofs.AnswerLaws.{done-same, not-done}
 use Rattle.frames.specs.declared.Order.{Order}
 use Rattle.lines.specs.Lines.{endedBy, between}
 use Rattle.lines.specs.Answers.{endedBack, nextBack}
@@ -16,8 +20,8 @@ use Rattle.lines.specs.Cutter.{kept, feedOf, keptAfter, ordersFrom, Step, nextO
 use Rattle.lines.specs.declared.Next.{Next}
 use Rattle.lines.proofs.LineLaws.{by-end}
 use Rattle.lines.proofs.Pieces.{orders-append, kept-append}
-use Rattle.sessions.specs.Runs.{Runs, ends, ServedAt, PieceRan}
-use Rattle.sessions.proofs.RunLaws.{runs-append}
+use Rattle.sessions.specs.Runs.{Runs, ends, Served, ServedAt, PieceRan, NoMore}
+use Rattle.sessions.proofs.RunLaws.{runs-append, runs-long}
 
 -- ---- what a search for the next line end has read
 
@@ -144,3 +148,35 @@ module _ (work work′ : ℕ) (ws now later k piece : List ℕ) (at : ℕ) (out 
       all z join =
           ap (λ (l : List (Back Order)). ordersFrom k (between at i piece) ++ l) (z .orders ∙ ap (λ (l : List ℕ). ordersFrom l (between i (r .at) piece)) (ran .keeps))
           ∙ sym (ap (ordersFrom k) join ∙ orders-append k (between at i piece) (between i (r .at) piece))
+
+-- ---- for a loop that runs a piece to its end
+
+module _ {work : ℕ} {ws ws′ k piece : List ℕ} {at : ℕ} {out out′ k′ : List ℕ} {at′ written : ℕ} (ran : PieceRan work ws ws′ k piece at out out′ k′ at′ written) where
+  pub ran-long : written ≡ 27 * length (ordersFrom k (between at at′ piece))
+  ran-long = ran .count ∙ runs-long (ran .run)
+
+  still : at′ ≡ at → written ≡ 0
+  unfolding ordersFrom
+  still e =
+      let none : at′ - at ≡ 0 = omega arith in
+      ran-long ∙ ap (λ (n : ℕ). 27 * length (ordersFrom k (take n (drop at piece)))) none
+
+  -- where there is room for an answer, at least one byte is read
+  pub ran-moves : 27 ≤ length out → at < length piece → NoMore piece at′ out written → at < at′
+  ran-moves room more (inl over) = omega arith
+  ran-moves room more (inr full) =
+      elim (ℕ-discrete at′ at) [
+        | yes e ↦ omega (arith, still e)
+        | no d ↦ omega (arith, ran .forth, d)
+      ]
+
+-- what was answered fits the buffer
+pub served-fits : {work : ℕ} {ws ws′ : List ℕ} {reads : List (Back Order)} {out out′ : List ℕ} {r : Written} (n : ℕ) → Served work ws ws′ reads out out′ r → r ≡ Bytes n → n ≤ length out
+served-fits {reads = reads} {out = out} n served e =
+    elim (decLt (length out) (27 * length reads)) [
+      | yes h ↦ not-done (ap writtenBack (sym (served .short h .0) ∙ e))
+      | no g ↦
+          let f = served .room (omega arith) in
+          let same : n ≡ length (f .bytes) = done-same (ap writtenBack (sym e ∙ f .count)) in
+          omega (arith, runs-long (f .run))
+    ]
