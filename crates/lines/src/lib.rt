@@ -102,14 +102,14 @@ pub fn finish(cutter: Cutter) -> Ended
 fn end_from(piece: &[u8], at: usize) -> usize
     ensures { λ r. ⌜ EndsAt (now (piece .entry)) at r ⌝ }
 {
-    let mut i = at;
-    while i < piece.len() {
-        if piece[i] == LINE_END {
-            return i;
+    let mut end = at;
+    while end < piece.len() {
+        if piece[end] == LINE_END {
+            return end;
         }
-        i += 1;
+        end += 1;
     }
-    i
+    end
 }
 
 // Feeds a piece byte by byte from a place on, until a line ends or the piece does.
@@ -143,13 +143,15 @@ fn feed_from(cutter: Cutter, piece: &[u8], at: usize) -> Next
 pub fn next_line(cutter: Cutter, piece: &[u8], at: usize) -> Next
     ensures { λ r. ⌜ nextBack r ≡ nextOf (kept cutter) at (drop at (now (piece .entry))) ⌝ }
 {
-    if cutter.len == 0 {
+    let so_far = cutter.len;
+    if so_far == 0 {
         let end = end_from(piece, at);
         if end < piece.len() {
             let read = frames::read(&piece[at..end]);
+            let behind = end + 1;
             return Next {
                 cutter,
-                at: end + 1,
+                at: behind,
                 ended: Ended::Line(read),
             };
         }

@@ -23,8 +23,8 @@ shared-slice-read-if1 c = omega arith
 returns : tie.Need-returns Inv-loop μ-loop
 returns c = record { behind = c .before .before .before .loop .inv .0; before = c .before .before .before .loop .inv .1; there = λ h. omega arith }
 
-add-i : tie.Need-add-i Inv-loop μ-loop
-add-i c = omega arith
+add-end : tie.Need-add-end Inv-loop μ-loop
+add-end c = omega arith
 
 loop-less : tie.Need-loop-less Inv-loop μ-loop
 loop-less c = omega arith
@@ -44,7 +44,7 @@ end-from-spec =
     loop-holds
     shared-slice-read-if1
     returns
-    add-i
+    add-end
     loop-less
     loop-again
     returns-2)

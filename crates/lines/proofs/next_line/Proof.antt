@@ -21,11 +21,11 @@ part-read-end c = search needs
 read-requires : tie.Need-read-requires
 read-requires c κs = search needs
 
-add-t10 : tie.Need-add-t10
-add-t10 c = search needs
+add-behind : tie.Need-add-behind
+add-behind c = search needs
 
 returns : tie.Need-returns
-returns c = let z : c .before .before .before .before .before .before .before .args .cutter .len ≡ 0 = omega arith in whole-line _ _ _ (c .before .before .before .end-from .ensures) (omega arith) (c .before .before .before .before .before .before .before .args .cutter) (c .read .result) (ap (λ n. take n (c .before .before .before .before .before .before .before .args .cutter .bytes)) z) (c .read .ensures)
+returns c = let z : c .before .before .before .before .before .before .args .cutter .len ≡ 0 = omega arith in whole-line _ _ _ (c .before .before .before .end-from .ensures) (omega arith) (c .before .before .before .before .before .before .args .cutter) (c .read .result) (ap (λ n. take n (c .before .before .before .before .before .before .args .cutter .bytes)) z) (c .read .ensures)
 
 feed-from-requires : tie.Need-feed-from-requires
 feed-from-requires c κs = search needs
@@ -42,7 +42,7 @@ next-line-spec =
     part-read-start
     part-read-end
     read-requires
-    add-t10
+    add-behind
     returns
     feed-from-requires
     returns-2)
