@@ -85,7 +85,7 @@ reads-next k piece at s e =
 
 -- ---- two stretches of a piece, one behind the other
 
-between-join : (piece : List ℕ) (a b c : ℕ) → a ≤ b → b ≤ c → between a c piece ≡ between a b piece ++ between b c piece
+pub between-join : (piece : List ℕ) (a b c : ℕ) → a ≤ b → b ≤ c → between a c piece ≡ between a b piece ++ between b c piece
 between-join piece a b c p q =
     let all : c - a ≡ b - a + (c - b) = omega arith in
     let there : a + (b - a) ≡ b = omega arith in
