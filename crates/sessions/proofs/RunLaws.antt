@@ -46,11 +46,10 @@ module _ (ws ws′ : List ℕ) (work : ℕ) (order : Order) (answer : Answer) (w
   unfolding orderCall orders.call
   setup-called links e called = rw e called
 
-  -- TEMPORARY: `rules.heldCall` stands in for `rules.insert work entry`
-  pub insert-called : (entry : ℕ) (e : Entry) → entry ≡ wordOf e → order ≡ Insert e → Called ws ws′ (rules.heldCall (lentOf ws)) answer word steps packed
+  pub insert-called : (entry : ℕ) (e : Entry) → entry ≡ wordOf e → order ≡ Insert e → Called ws ws′ (rules.insert work entry (lentOf ws)) answer word steps packed
       → Called ws ws′ (orderCall work order (lentOf ws)) answer word steps packed
   unfolding orderCall orders.call
-  insert-called entry e w q called = rw q called
+  insert-called entry e w q called = rw (q, ← w) called
 
   pub take-called : order ≡ Take → Called ws ws′ (rules.take (lentOf ws)) answer word steps packed → Called ws ws′ (orderCall work order (lentOf ws)) answer word steps packed
   unfolding orderCall orders.call

@@ -23,8 +23,7 @@ use Rattle.queue.specs.Calls.{Called}
 -- the rules' order of a frame's
 abbrev pub asked : Order → orders.Order
 asked (Setup links) = orders.setupOf links
--- TEMPORARY: stands in for `orders.insertOf (wordOf e)` until queue::insert is proved
-asked (Insert e) = orders.heldNow
+asked (Insert e) = orders.insertOf (wordOf e)
 asked Take = orders.takeIt
 asked Look = orders.lookAt
 asked Held = orders.heldNow

@@ -7,7 +7,6 @@ ghost use Rattle.lines.specs.Answers.{endedBack};
 ghost use Rattle.lines.specs.Cutter.{kept, lastOf};
 ghost use Rattle.buffers.specs.Format.{lentOf};
 ghost use Rattle.queue.specs.Calls.{Called};
-ghost use Rattle.rules.specs.Calls as rules;
 ghost use Rattle.sessions.specs.Runs.{orderCall, lineCall, Served, ServedAt, PieceRan, NoMore};
 use frames::Order;
 use frames::ReadFrame;
@@ -22,13 +21,6 @@ const LINE: usize = 27;
 // One more than the largest number that eight digits write.
 const EIGHT: u64 = 4294967296;
 
-// TEMPORARY: stands in for queue::insert until that is proved. It inserts nothing.
-fn insert(a: &mut [u64], work: &mut [u64], entry: u64) -> Outcome
-    ensures { λ r. ⌜ Called (now (a .entry)) (now (a .exit)) (rules.heldCall (lentOf (now (a .entry)))) (r .answer) (r .word) (r .steps) (r .packed) ⌝ }
-{
-    queue::held(a)
-}
-
 // Does an order.
 pub fn perform(a: &mut [u64], work: &mut [u64], order: Order) -> Outcome
     ensures { λ r. ⌜ Called (now (a .entry)) (now (a .exit)) (orderCall (length (now (work .entry))) order (lentOf (now (a .entry)))) (r .answer) (r .word) (r .steps) (r .packed) ⌝ }
@@ -40,7 +32,7 @@ pub fn perform(a: &mut [u64], work: &mut [u64], order: Order) -> Outcome
         }
         Order::Insert(entry) => {
             let word = frames::word_of(entry);
-            insert(a, work, word)
+            queue::insert(a, work, word)
         }
         Order::Take => queue::take(a),
         Order::Look => queue::look(a),

@@ -58,7 +58,7 @@ same-length-3 : tie.Need-same-length-3
 same-length-3 c = search needs
 
 returns-2 : tie.Need-returns-2
-returns-2 c = insert-called _ _ _ (c .before .before .before .before .before .before .before .before .before .before .before .before .before .args .order) _ _ _ _ _ _ (c .before .before .before .before .before .before .before .word-of .ensures) (c .before .before .before .before .before .before .before .before .before .order2 .given .1) (c .before .before .before .before .insert .ensures)
+returns-2 c = insert-called _ _ _ (c .before .before .before .before .before .before .before .before .before .before .before .before .before .args .order) _ _ _ _ _ _ (c .before .before .before .before .before .before .before .word-of .ensures) (c .before .before .before .before .before .before .before .before .before .order2 .given .1) (c .before .before .before .before .insert .ensures .0)
 
 same-length-4 : tie.Need-same-length-4
 same-length-4 c = search needs
