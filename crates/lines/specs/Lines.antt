@@ -2,7 +2,8 @@
 use mathlib.Core.Bool.{Bool, true, cond, not, _&&_}
 use mathlib.Core.List.{List, [], _∷_, _++_, map}
 use mathlib.Core.Path.{_≡_}
-use Prim.Native.Nat.{ℕ, _-_, _≤_, _<_}
+use mathlib.Core.Logic.{_⊎_}
+use Prim.Native.Nat.{ℕ, _+_, _-_, _≤_, _<_}
 use lib.ListN.{length, take, drop, getD}
 use lib.Dec.{eqb}
 use Rattle.frames.specs.Answers.{Back}
@@ -60,5 +61,10 @@ between at end piece = take (end - at) (drop at piece)
 -- the first line end from a place on, or where the piece ends
 pub record EndsAt (piece : List ℕ) (at end : ℕ) : Type 0 where
   pub behind : at ≤ end
+  pub inside : at ≤ length piece → end ≤ length piece
   pub before : plain (between at end piece) ≡ true
   pub there : end < length piece → getD piece end 0 ≡ 10
+
+-- a place between two others, behind as many bytes as decide what a line is read as, or the last
+abbrev pub Stops : ℕ → ℕ → ℕ → Type 0
+Stops at end stop = (stop ≡ end) ⊎ ((stop ≡ at + 19) × (stop ≤ end))
