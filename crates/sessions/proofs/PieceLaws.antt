@@ -33,6 +33,7 @@ record Eaten (k : List ℕ) (at : ℕ) (bs : List ℕ) (s : Step) : Type 0 where
   fits : many ≤ length bs
   orders : s .cut .orders ≡ ordersFrom k (take many bs)
   keeps : s .cut .keeps ≡ keptAfter k (take many bs)
+  none : (m : ℕ) → m < many → ordersFrom k (take m bs) ≡ []
 
 module _ (k : List ℕ) (at b : ℕ) (bs : List ℕ) where
   eaten-end : Eaten k at (b ∷ bs) (record { at = at + 1; cut = feedOf k b })
@@ -44,7 +45,12 @@ module _ (k : List ℕ) (at b : ℕ) (bs : List ℕ) where
     fits = omega arith;
     orders = sym (append-nil (feedOf k b .orders));
     keeps = refl;
+    none = first;
   }
+    where
+      first : (m : ℕ) → m < 1 → ordersFrom k (take m (b ∷ bs)) ≡ []
+      first zero h = refl
+      first (suc m) h = absurd (omega arith)
 
   eaten-past : eqb b 10 ≡ false → (s : Step) → Eaten (feedOf k b .keeps) (at + 1) bs s → Eaten k at (b ∷ bs) s
   unfolding ordersFrom keptAfter endedBy
@@ -55,11 +61,16 @@ module _ (k : List ℕ) (at b : ℕ) (bs : List ℕ) where
     fits = omega (arith, e .fits);
     orders = rw t (e .orders);
     keeps = e .keeps;
+    none = before;
   }
+    where
+      before : (m : ℕ) → m < suc (e .many) → ordersFrom k (take m (b ∷ bs)) ≡ []
+      before zero h = refl
+      before (suc m) h = rw t (e .none m (omega arith))
 
 eaten : (k : List ℕ) (at : ℕ) (bs : List ℕ) → Eaten k at bs (nextOf k at bs)
 unfolding nextOf ordersFrom keptAfter
-eaten k at [] = record { many = 0; place = omega arith; some = λ h. h; fits = omega arith; orders = refl; keeps = refl }
+eaten k at [] = record { many = 0; place = omega arith; some = λ h. h; fits = omega arith; orders = refl; keeps = refl; none = λ m h. absurd (omega arith) }
 eaten k at (b ∷ bs) =
     let next = nextOf (feedOf k b .keeps) (at + 1) bs in
     by-end (λ (t : Bool). Eaten k at (b ∷ bs) (cond t (record { at = at + 1; cut = feedOf k b }) next)) b
@@ -69,8 +80,10 @@ eaten k at (b ∷ bs) =
 record Reads (k piece : List ℕ) (at : ℕ) (s : Step) : Type 0 where
   further : at < length piece → at < s .at
   behind : at ≤ s .at
+  within : at ≤ length piece → s .at ≤ length piece
   orders : s .cut .orders ≡ ordersFrom k (between at (s .at) piece)
   keeps : s .cut .keeps ≡ keptAfter k (between at (s .at) piece)
+  none : (i : ℕ) → at ≤ i → i < s .at → ordersFrom k (between at i piece) ≡ []
 
 reads-next : (k piece : List ℕ) (at : ℕ) (s : Step) → s ≡ nextOf k at (drop at piece) → Reads k piece at s
 reads-next k piece at s e =
@@ -79,8 +92,10 @@ reads-next k piece at s e =
     record {
       further = λ h. omega (arith, z .place, z .some (omega (arith, length-drop at piece)));
       behind = omega (arith, z .place);
+      within = λ h. omega (arith, z .place, z .fits, length-drop at piece);
       orders = z .orders ∙ ap (λ (n : ℕ). ordersFrom k (take n (drop at piece))) many;
       keeps = z .keeps ∙ ap (λ (n : ℕ). keptAfter k (take n (drop at piece))) many;
+      none = λ i h g. z .none (i - at) (omega (arith, z .place));
     }
 
 -- ---- two stretches of a piece, one behind the other
@@ -100,6 +115,9 @@ ran-starts work ws k piece at out =
     let none : at - at ≡ 0 = omega arith in
     record {
       forth = omega arith;
+      within = λ h. h;
+      over = λ h. refl;
+      room = λ i h g. absurd (omega arith);
       keeps = sym (ap (λ (n : ℕ). keptAfter k (take n (drop at piece))) none);
       bytes = [];
       run = subst (λ (n : ℕ). Runs work ws (ordersFrom k (take n (drop at piece))) ws []) (sym none) (ends ws);
@@ -112,12 +130,28 @@ pub ran-further : (k piece : List ℕ) (i : ℕ) (r : Next) → nextBack r ≡ n
 ran-further k piece i r next h = reads-next k piece i (nextBack r) next .further h
 
 module _ (work work′ : ℕ) (ws now later k piece : List ℕ) (at : ℕ) (out out₁ out₂ k₁ : List ℕ) (i n m : ℕ) (ran : PieceRan work ws now k piece at out out₁ k₁ i n)
-    (r : Next) (next : nextBack r ≡ nextOf k₁ i (drop i piece)) (same : work′ ≡ work) (served′ : ServedAt work′ now later (endedBack (r .ended)) out₁ out₂ n m) where
+    (r : Next) (next : nextBack r ≡ nextOf k₁ i (drop i piece)) (same : work′ ≡ work) (served′ : ServedAt work′ now later (endedBack (r .ended)) out₁ out₂ n m)
+    (left : i < length piece) (fits : n + 27 ≤ length out₁) where
   served : ServedAt work now later (endedBack (r .ended)) out₁ out₂ n m
   served = subst (λ (w : ℕ). ServedAt w now later (endedBack (r .ended)) out₁ out₂ n m) same served′
 
   same-room : length out₁ ≡ length out
   same-room = ap length (ran .after) ∙ length-append (ran .bytes) (drop n out) ∙ omega (arith, ran .count, ran .inside, length-drop n out)
+
+  -- no line ends before the next
+  had-room : Reads k₁ piece i (nextBack r) → (j : ℕ) → at ≤ j → j < r .at → 27 * length (ordersFrom k (between at j piece)) + 27 ≤ length out
+  had-room z j h g =
+      elim (decLt j i) [
+        | yes b ↦ ran .room j h b
+        | no b ↦
+            let up : i ≤ j = omega arith in
+            let join : between at j piece ≡ between at i piece ++ between i j piece = between-join piece at i j (ran .forth) up in
+            let same : ordersFrom k (between at j piece) ≡ ordersFrom k (between at i piece) =
+            ap (ordersFrom k) join ∙ orders-append k (between at i piece) (between i j piece)
+            ∙ ap (λ (l : List ℕ). ordersFrom k (between at i piece) ++ ordersFrom l (between i j piece)) (sym (ran .keeps))
+            ∙ ap (λ (l : List (Back Order)). ordersFrom k (between at i piece) ++ l) (z .none j up g) ∙ append-nil (ordersFrom k (between at i piece)) in
+            omega (arith, ap length same, ran .count, runs-long (ran .run), same-room)
+      ]
 
   pub ran-on : PieceRan work ws later k piece at out out₂ (kept (r .cutter)) (r .at) m
   ran-on =
@@ -131,6 +165,9 @@ module _ (work work′ : ℕ) (ws now later k piece : List ℕ) (at : ℕ) (out 
       ∙ drop-drop (length (served .bytes)) n out ∙ ap (λ (l : ℕ). drop l out) past in
       record {
         forth = omega (arith, ran .forth, z .behind);
+        within = λ h. z .within (ran .within h);
+        over = λ h. absurd (omega (arith, ran .forth));
+        room = had-room z;
         keeps =
             z .keeps ∙ ap (λ (l : List ℕ). keptAfter l (between i (r .at) piece)) (ran .keeps)
             ∙ sym (ap (keptAfter k) join ∙ kept-append k (between at i piece) (between i (r .at) piece));

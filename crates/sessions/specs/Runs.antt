@@ -75,9 +75,12 @@ pub record ServedAt (work : ℕ) (ws ws′ : List ℕ) (reads : List (Back Order
   pub inside : end ≤ length out
   pub after : out′ ≡ take at out ++ (bytes ++ drop end out)
 
--- the lines that end between two places of a piece, answered; k and k′ are what is kept of the line so far, before and behind
+-- the lines that end between two places of a piece, answered; k and k′ are what is kept of the line so far, before and behind; at every place before the last there was room for another answer
 pub record PieceRan (work : ℕ) (ws ws′ k piece : List ℕ) (at : ℕ) (out out′ k′ : List ℕ) (at′ written : ℕ) : Type 0 where
   pub forth : at ≤ at′
+  pub within : at ≤ length piece → at′ ≤ length piece
+  pub over : length piece ≤ at → at′ ≡ at
+  pub room : (i : ℕ) → at ≤ i → i < at′ → 27 * length (ordersFrom k (between at i piece)) + 27 ≤ length out
   pub keeps : k′ ≡ keptAfter k (between at at′ piece)
   pub bytes : List ℕ
   pub run : Runs work ws (ordersFrom k (between at at′ piece)) ws′ bytes
