@@ -31,7 +31,7 @@ width-short c = go (eqb c 0) (eqb c 1)
     go false false = omega arith
 
 -- a line that is longer than the longest frame is no frame
-long-refused : (l : List ℕ) → 18 < length l → refused ≡ readOf l
+pub long-refused : (l : List ℕ) → 18 < length l → refused ≡ readOf l
 long-refused l h = read-other l (λ e. omega (arith, width-short (number (take 2 l))))
 
 pub read-decisive : (l : List ℕ) → readOf (decisive l) ≡ readOf l
@@ -58,6 +58,9 @@ array-length xs n e = sym (length-map xs (λ (v : ℕ). v)) ∙ e
 module _ (c : Cutter) (long : length (c .bytes) ≡ 19) where
   pub kept-length : c .len < 19 → c .len ≡ length (kept c)
   kept-length h = sym (length-take-le (c .len) (c .bytes) (omega arith))
+
+  pub kept-decisive : decisive (kept c) ≡ kept c
+  kept-decisive = take-all 19 (kept c) (simp length-take (omega arith))
 
   pub kept-all : 19 ≤ c .len → kept c ≡ c .bytes
   kept-all h = take-all (c .len) (c .bytes) (omega arith)

@@ -1,6 +1,6 @@
 pub mod LineLaws
 pub mod CutterLaws
-pub mod NextLaws
+pub mod WholeLaws
 pub mod Pieces
 pub mod NextLines
 pub mod Agreement

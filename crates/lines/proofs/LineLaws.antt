@@ -51,7 +51,7 @@ ended-together line (b ∷ bs) =
 
 -- no line holds a line end
 
-plain-append : (xs ys : List ℕ) → plain xs ≡ true → plain ys ≡ true → plain (xs ++ ys) ≡ true
+pub plain-append : (xs ys : List ℕ) → plain xs ≡ true → plain ys ≡ true → plain (xs ++ ys) ≡ true
 unfolding plain
 plain-append [] ys p q = q
 plain-append (x ∷ xs) ys p q =
@@ -84,11 +84,11 @@ not-end false e = refl
 
 -- a byte of a plain line goes on with its line
 module _ (b : ℕ) (l : List ℕ) (p : plain (b ∷ l) ≡ true) where
-  other : eqb b 10 ≡ false
+  pub other : eqb b 10 ≡ false
   unfolding plain
   other = not-end (eqb b 10) (both-left (not (eqb b 10)) (plain l) p)
 
-  rest-plain : plain l ≡ true
+  pub rest-plain : plain l ≡ true
   unfolding plain
   rest-plain = both-right (not (eqb b 10)) (plain l) p
 

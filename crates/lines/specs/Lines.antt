@@ -1,7 +1,10 @@
 -- "One frame a line .. line end 0A; a last line without it counts if it has at least one byte."
 use mathlib.Core.Bool.{Bool, true, cond, not, _&&_}
 use mathlib.Core.List.{List, [], _∷_, _++_, map}
-use Prim.Native.Nat.{ℕ}
+use mathlib.Core.Path.{_≡_}
+use mathlib.Core.Logic.{_⊎_}
+use Prim.Native.Nat.{ℕ, _+_, _-_, _≤_, _<_}
+use lib.ListN.{length, take, drop, getD}
 use lib.Dec.{eqb}
 use Rattle.frames.specs.Answers.{Back}
 use Rattle.frames.specs.Frames.{readOf}
@@ -50,3 +53,18 @@ allPlain (l ∷ ls) = plain l && allPlain ls
 unfoldable pub together : List (List ℕ) → List ℕ
 together [] = []
 together (l ∷ ls) = l ++ (10 ∷ together ls)
+
+-- the bytes of a piece from one place to another
+abbrev pub between : ℕ → ℕ → List ℕ → List ℕ
+between at end piece = take (end - at) (drop at piece)
+
+-- the first line end from a place on, or where the piece ends
+pub record EndsAt (piece : List ℕ) (at end : ℕ) : Type 0 where
+  pub behind : at ≤ end
+  pub inside : at ≤ length piece → end ≤ length piece
+  pub before : plain (between at end piece) ≡ true
+  pub there : end < length piece → getD piece end 0 ≡ 10
+
+-- a place between two others, behind as many bytes as decide what a line is read as, or the last
+abbrev pub Stops : ℕ → ℕ → ℕ → Type 0
+Stops at end stop = (stop ≡ end) ⊎ ((stop ≡ at + 19) × (stop ≤ end))

@@ -1,10 +1,12 @@
 // Bytes cut into lines, each read as an order; the bytes may come in any pieces.
 ghost use mathlib.Core.Path.{_≡_};
 ghost use mathlib.Core.List.{[], _∷_, _++_};
-ghost use lib.ListN.{drop};
+ghost use Prim.Native.Nat.{_≤_};
+ghost use lib.ListN.{length, drop};
 ghost use Rattle.frames.specs.Answers.{readBack};
 ghost use Rattle.frames.specs.Frames.{readOf};
 ghost use Rattle.lines.specs.Cutter.{decisive, kept, feedOf, lastOf, nextOf};
+ghost use Rattle.lines.specs.Lines.{between, EndsAt, Stops};
 ghost use Rattle.lines.specs.Answers.{endedBack, fedBack, nextBack};
 
 const LINE_END: u8 = 10;
@@ -97,29 +99,94 @@ pub fn finish(cutter: Cutter) -> Ended
     Ended::Line(line_read(cutter))
 }
 
-// Feeds a piece from a place on, until a line ends or the piece does.
+// The place of the first line end of a piece from a place on, or the place where the piece ends.
+fn end_from(piece: &[u8], at: usize) -> usize
+    ensures { λ r. ⌜ EndsAt (now (piece .entry)) at r ⌝ }
+{
+    let mut end = at;
+    while end < piece.len() {
+        if piece[end] == LINE_END {
+            return end;
+        }
+        end += 1;
+    }
+    end
+}
+
+// Where reading may stop between two places: behind the bytes that decide.
+fn stop_of(at: usize, end: usize) -> usize
+    requires { ⌜ at ≤ end ⌝ }
+    ensures { λ r. ⌜ Stops at end r ⌝ }
+{
+    if end - at < KEPT {
+        return end;
+    }
+    at + KEPT
+}
+
+// What a cutter keeps after some bytes of a piece that have no line end: those that decide, and no more of them are read.
+fn keep(cutter: Cutter, piece: &[u8], at: usize, end: usize) -> Cutter
+    requires { ⌜ (at ≤ end) × (end ≤ length (now piece)) ⌝ }
+    ensures { λ r. ⌜ kept r ≡ decisive (kept cutter ++ between at end (now (piece .entry))) ⌝ }
+{
+    let stop = stop_of(at, end);
+    let mut so_far = cutter;
+    let mut i = at;
+    while i < stop {
+        so_far = onward(so_far, piece[i]);
+        i += 1;
+    }
+    so_far
+}
+
+// The bytes of a piece from one place to another, read as a frame where they stand.
+fn read_between(piece: &[u8], at: usize, end: usize) -> frames::ReadFrame
+    requires { ⌜ (at ≤ end) × (end ≤ length (now piece)) ⌝ }
+    ensures { λ r. ⌜ readBack r ≡ readOf (between at end (now (piece .entry))) ⌝ }
+{
+    let many = end - at;
+    if many < KEPT {
+        return frames::read(&piece[at..end]);
+    }
+    frames::ReadFrame::NotAFrame
+}
+
+// The line that a line end behind some bytes of a piece ends.
+fn line_of(cutter: Cutter, piece: &[u8], at: usize, end: usize) -> frames::ReadFrame
+    requires { ⌜ (at ≤ end) × (end ≤ length (now piece)) ⌝ }
+    ensures { λ r. ⌜ readBack r ≡ readOf (kept cutter ++ between at end (now (piece .entry))) ⌝ }
+{
+    let so_far = cutter.len;
+    if so_far == 0 {
+        return read_between(piece, at, end);
+    }
+    line_read(keep(cutter, piece, at, end))
+}
+
+// The next line of a piece from a place on, or what the piece has of it.
 pub fn next_line(cutter: Cutter, piece: &[u8], at: usize) -> Next
     ensures { λ r. ⌜ nextBack r ≡ nextOf (kept cutter) at (drop at (now (piece .entry))) ⌝ }
 {
-    let mut so_far = cutter;
-    let mut i = at;
-    while i < piece.len() {
-        let byte = piece[i];
-        let fed = feed(so_far, byte);
-        let ended = fed.ended;
-        so_far = fed.cutter;
-        i += 1;
-        if byte == LINE_END {
-            return Next {
-                cutter: so_far,
-                at: i,
-                ended,
-            };
-        }
+    if piece.len() <= at {
+        return Next {
+            cutter,
+            at,
+            ended: Ended::Nothing,
+        };
+    }
+    let end = end_from(piece, at);
+    if end < piece.len() {
+        let read = line_of(cutter, piece, at, end);
+        let behind = end + 1;
+        return Next {
+            cutter: Cutter::new(),
+            at: behind,
+            ended: Ended::Line(read),
+        };
     }
     Next {
-        cutter: so_far,
-        at: i,
+        cutter: keep(cutter, piece, at, end),
+        at: end,
         ended: Ended::Nothing,
     }
 }

@@ -1,55 +1,50 @@
-use Prim.Native.Nat.{_-_}
+use mathlib.Core.Path.{_≡_}
 use native.Mathlib.Omega.{arith}
-use mathlib.Core.Path.{refl}
 use lib.ListN.{length}
 use Rattle.lines.specs.Cutter.{kept}
-use Rattle.lines.proofs.NextLaws.{Feeding, feeding-starts, feeds-on, feeds-end, feeds-all}
+use Rattle.lines.proofs.CutterLaws.{array-length, kept-decisive}
+use Rattle.lines.proofs.WholeLaws.{line-over, line-ends, line-open}
+use borrow.Author.Needs.{needs}
 use Rattle.lines.proofs.next_line.Statement.{statement}
 use Rattle.lines.proofs.next_line.Tie as tie
 
-abbrev Inv-loop : tie.InvT-loop
-Inv-loop piece at so-far₀ i₀ so-far i = Feeding piece (kept so-far₀) at (kept so-far) i
+-- the array has its length, as the struct's own row says
+long : (c : tie.Start) → length (c .args .cutter .bytes) ≡ 19
+long c = array-length (c .args .cutter .bytes) 19 (c .good .0 .1 .1 .0 .1 .0 .1)
 
-abbrev μ-loop : tie.MeasureT-loop
-μ-loop piece at so-far₀ i₀ so-far i = length piece - i
+returns : tie.Need-returns
+returns c = line-over _ _ (c .before .before .args .cutter) (omega arith)
 
-loop-holds : tie.Need-loop-holds Inv-loop μ-loop
-loop-holds c = feeding-starts _ _ _
+end-from-requires : tie.Need-end-from-requires
+end-from-requires c κs = search needs
 
-shared-slice-read-byte : tie.Need-shared-slice-read-byte Inv-loop μ-loop
-shared-slice-read-byte c = omega arith
+line-of-requires : tie.Need-line-of-requires
+line-of-requires c κs = search needs
 
-feed-requires : tie.Need-feed-requires Inv-loop μ-loop
-feed-requires c κs = tt
+add-behind : tie.Need-add-behind
+add-behind c = search needs
 
-add-i : tie.Need-add-i Inv-loop μ-loop
-add-i c = omega arith
+new-requires : tie.Need-new-requires
+new-requires c κs = search needs
 
-returns : tie.Need-returns Inv-loop μ-loop
-returns c =
-    feeds-end _ _ _ _ _ (c .before .before .before .before .before .loop .inv) _ (omega arith) refl (omega arith) (c .before .before .feed .result) (c .before .before .feed .ensures)
+returns-2 : tie.Need-returns-2
+returns-2 c = line-ends _ _ _ (c .before .before .before .end-from .ensures) (kept (c .before .before .before .before .before .before .args .cutter)) (kept-decisive (c .before .before .before .before .before .before .args .cutter) (long (c .before .before .before .before .before .before))) (omega arith) (c .new .result) (c .before .line-of .result) (c .new .ensures) (c .before .line-of .ensures)
 
-loop-less : tie.Need-loop-less Inv-loop μ-loop
-loop-less c = omega arith
+keep-requires : tie.Need-keep-requires
+keep-requires c κs = (c .before .end-from .ensures .behind, c .before .end-from .ensures .inside (omega arith))
 
-loop-again : tie.Need-loop-again Inv-loop μ-loop
-loop-again c =
-    feeds-on _ _ _ _ _ (c .before .before .before .before .before .loop .inv) _ (omega arith) refl (λ e. omega arith) (c .before .before .feed .result) (c .before .before .feed .ensures)
-
-returns-2 : tie.Need-returns-2 Inv-loop μ-loop
-returns-2 c = feeds-all _ _ _ _ _ (c .before .loop .inv) (omega arith) (c .before .loop .so-far) refl
+returns-3 : tie.Need-returns-3
+returns-3 c = line-open _ _ _ (c .before .before .end-from .ensures) (kept (c .before .before .before .before .before .args .cutter)) (kept-decisive (c .before .before .before .before .before .args .cutter) (long (c .before .before .before .before .before))) (omega arith) (omega arith) (c .keep .result) (c .keep .ensures)
 
 pub next-line-spec : {M : Type 1} → statement M
 next-line-spec =
     tie.close
     (tie.spec
-    Inv-loop
-    μ-loop
-    loop-holds
-    shared-slice-read-byte
-    feed-requires
-    add-i
     returns
-    loop-less
-    loop-again
-    returns-2)
+    end-from-requires
+    line-of-requires
+    add-behind
+    new-requires
+    returns-2
+    keep-requires
+    returns-3)

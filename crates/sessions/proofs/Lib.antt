@@ -1,0 +1,4 @@
+pub mod RunLaws
+pub mod PieceLaws
+pub mod AlikeLaws
+pub mod SameAnswers
