@@ -5,7 +5,7 @@ use mathlib.Core.Logic.{_≢_}
 use mathlib.Core.Bool.{Bool, true, false}
 use mathlib.Core.List.{List, []}
 use native.Mathlib.Omega.{arith}
-use borrow.Author.Tests.{le-leb, lt-leb, eq-eqb, eqb-true}
+use borrow.Author.Tests.{le-leb, lt-leb, eq-eqb, ne-eqb}
 use lib.Dec.{T, T-not, leb, eqb}
 use lib.ListN.{length, set}
 use lib.Seq.{getD-set-other}
@@ -59,15 +59,8 @@ room-when : (q : Queue) (a b : Bool) → eqb (length (insertion (q .buffers))) 8
 unfolding makeRoom
 room-when q a b e f = λ x. elim (e x) [ false ↦ nothing-made q | true ↦ elim (f x) [ true ↦ swept (goal q) q | false ↦ packed q ] ]
 
-unlike-eqb : (m n : ℕ) → m ≢ n → eqb m n ≡ false
-unlike-eqb m n differ = go (eqb m n) refl
-  where
-    go : (b : Bool) → eqb m n ≡ b → b ≡ false
-    go true e = absurd (differ (eqb-true m n e))
-    go false e = refl
-
 room-none : (q : Queue) → length (insertion (q .buffers)) ≢ 8 → makeRoom q ≡ nothing-made q
-room-none q differ = room-when q false (leb (goal q) (q .links)) (unlike-eqb (length (insertion (q .buffers))) 8 differ) refl
+room-none q differ = room-when q false (leb (goal q) (q .links)) (ne-eqb (length (insertion (q .buffers))) 8 differ) refl
 
 room-swept : (q : Queue) → length (insertion (q .buffers)) ≡ 8 → goal q ≤ q .links → makeRoom q ≡ swept (goal q) q
 room-swept q eight there = room-when q true true (eq-eqb (length (insertion (q .buffers))) 8 eight) (le-leb (goal q) (q .links) there)
