@@ -300,12 +300,11 @@ module _ (ws work : List ℕ) (entry : ℕ) where
         pub insert-called : Called ws ws₂ (insert (length work) entry (lentOf ws)) Done 0 steps packs
         insert-called =
             let o = insert-is all-hold in
-            accepted-called ws ws₂ (insert (length work) entry (lentOf ws)) 0 steps packs
-            (ap (λ (r : Outcome). r .answer) o)
-            (sym (ap (λ (r : Outcome). r .word) o))
-            (z .made ∙ ap (λ (y : Inserted). y .steps) outcome-is ∙ sym (ap (λ (r : Outcome). r .steps) o))
-            (packs-is ∙ ap (λ (y : Inserted). y .packed) outcome-is ∙ sym (ap (λ (r : Outcome). r .packed) o))
-            (queue₂ ∙ sym (ap (λ (r : Outcome). r .queue) o))
+            accepted-called ws ws₂ (insert (length work) entry (lentOf ws)) accepted 0 steps packs o
+            refl refl
+            (z .made ∙ ap (λ (y : Inserted). y .steps) outcome-is)
+            (packs-is ∙ ap (λ (y : Inserted). y .packed) outcome-is)
+            queue₂
             sound₂
             (z .long ∙ kept₁ .long)
             (λ p far. let same : words (linksIn ws₂) ≤ p = far in z .past p (rw (z .links) at far) ∙ kept₁ .past p (rw links₁ at (rw (z .links) at far)))
