@@ -32,7 +32,9 @@ use Rattle.buffers.proofs.Exact.{sound-inside}
 use Rattle.queue.proofs.BookLaws.{describes, shaped}
 use Rattle.demands.specs.Histories.{Call, Made, accepted, History, since, links, putIn, takenOut, inserts, takes, times, StillHeld}
 use Rattle.demands.specs.Exact.{Enough, WorkEnough, Sound, Answers, no-place, full, insert-done, take-done, look-done, held-done, audit-done, none-to-take, none-to-see}
-use Rattle.demands.proofs.CallLaws.{truth, unlike, timesHeld, held-word}
+use Rattle.rules.proofs.Tests.{truth}
+use Rattle.queue.proofs.CheckLaws.{unlike}
+use Rattle.demands.proofs.CallLaws.{timesHeld, held-word}
 use Rattle.demands.proofs.HistoryLaws.{stands}
 use Rattle.demands.proofs.BoundLaws.{of-four}
 use Rattle.demands.proofs.SmallestLaws.{times-held, number-held}

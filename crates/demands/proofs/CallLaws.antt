@@ -33,13 +33,6 @@ use Rattle.demands.specs.Histories.{isSetup, brought, handed, once}
 
 -- ---- tests
 
-pub truth : (b : Bool) → T b → b ≡ true
-truth true t = refl
-truth false t = absurd t
-
-pub unlike : true ≡ false → ⊥
-unlike e = subst T e tt
-
 pub once-is : (b : Bool) → once b ≡ oneIf b
 once-is true = refl
 once-is false = refl

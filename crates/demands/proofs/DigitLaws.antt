@@ -31,7 +31,8 @@ use Rattle.buffers.proofs.Exact.{sound-inside}
 use Rattle.queue.proofs.BookLaws.{describes, shaped}
 use Rattle.demands.specs.Histories.{Call, Made}
 use Rattle.demands.proofs.BoundLaws.{of-four, one-to-four}
-use Rattle.demands.proofs.CallLaws.{truth, setup-steps}
+use Rattle.rules.proofs.Tests.{truth}
+use Rattle.demands.proofs.CallLaws.{setup-steps}
 
 -- ---- what is owed
 

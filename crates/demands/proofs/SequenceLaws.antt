@@ -5,7 +5,7 @@ use mathlib.Core.Bool.{Bool, true, false}
 use mathlib.Core.List.{List, [], _∷_}
 use Rattle.rules.specs.Tests.{_or_}
 use Rattle.demands.specs.Histories.{Call, begins, linksOf, History, first, next, since, links, Sequence, none, more, hasSetup, fromSetup}
-use Rattle.demands.proofs.CallLaws.{unlike}
+use Rattle.queue.proofs.CheckLaws.{unlike}
 
 pub from-setup : {ws ws′ : List ℕ} {cs : List Call} → Sequence ws cs ws′ → hasSetup cs ≡ true → History (fromSetup cs) ws′
 from-setup none e = absurd (unlike (sym e))

@@ -19,7 +19,8 @@ use Rattle.rules.proofs.EntryOrder.{Earlier, earlier-smaller}
 use Rattle.rules.proofs.History.{Fine, since-fine, since-ordered}
 use Rattle.buffers.specs.Format.{lentOf}
 use Rattle.demands.specs.Histories.{Call, Made, accepted, isSetup, begins, History, first, next, since, links, brought, handed, ifDone, putIn, takenOut, times, StillHeld, Smallest}
-use Rattle.demands.proofs.CallLaws.{unlike, once-is, held-is, timesHeld, LeastHeld, least-taken, least-seen}
+use Rattle.queue.proofs.CheckLaws.{unlike}
+use Rattle.demands.proofs.CallLaws.{once-is, held-is, timesHeld, LeastHeld, least-taken, least-seen}
 use Rattle.demands.proofs.HistoryLaws.{stands}
 
 -- ---- a call in a history

@@ -170,10 +170,10 @@ and-true false = refl
 
 module _ (ws : List ℕ) (array : Inside ws) where
   -- A(1), at the root
-  pub root-can : CanWalk ws (linksIn ws) 1 0
-  root-can =
+  pub root-can : (links : ℕ) → links ≡ linksIn ws → CanWalk ws links 1 0
+  root-can links links-are =
       let one : LinkNumber 1 = record { low = omega arith; high = omega arith } in
-      record { array = array; of = refl; spot = spot (in-link one (omega (arith, k-least one))); behind = λ far. refl }
+      record { array = array; of = links-are; spot = spot (in-link one (omega (arith, k-least one))); behind = λ far. refl }
 
   -- I, whose slots follow the book
   pub insertion-at : At ws 0 256

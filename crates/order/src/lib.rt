@@ -82,7 +82,7 @@ pub fn in_order(a: &[u64]) -> bool
         at: Link::BOOK,
     };
     let outside = ascends(a, insertion, 0);
-    let links = a[0] as usize;
+    let links = buffers::counters::links(a) as usize;
     if !ordered(a, links, 1, 0, 0) {
         return false;
     }

@@ -201,9 +201,10 @@ pub told : (ws ws′ : List ℕ) (o : Outcome) (x answer : Answer) (word steps :
 told ws ws′ o x answer word steps packed a w s p z = rw (a, w, s, p) z
 
 -- "every accepted call leaves a book that keeps all book rules"
-pub accepted-called : (ws ws′ : List ℕ) (o : Outcome) (word steps : ℕ) (packed : Bool) → o .answer ≡ Done → word ≡ o .word → steps ≡ o .steps → packed ≡ o .packed → queueOf (lentOf ws′) ≡ o .queue → sound (bookOf ws′) ≡ true
-    → length ws′ ≡ length ws → ((p : ℕ) → words (linksIn ws′) ≤ p → getD ws′ p 0 ≡ getD ws p 0) → Called ws ws′ o Done word steps packed
-accepted-called ws ws′ o word steps packed a w s p q b long past =
+pub accepted-called : (ws ws′ : List ℕ) (o accepted : Outcome) (word steps : ℕ) (packed : Bool) → o ≡ accepted → accepted .answer ≡ Done → word ≡ accepted .word → steps ≡ accepted .steps → packed ≡ accepted .packed
+    → queueOf (lentOf ws′) ≡ accepted .queue → sound (bookOf ws′) ≡ true → length ws′ ≡ length ws → ((p : ℕ) → words (linksIn ws′) ≤ p → getD ws′ p 0 ≡ getD ws p 0) → Called ws ws′ o Done word steps packed
+accepted-called ws ws′ o accepted word steps packed e a w s p q b long past =
+    subst (λ z. Called ws ws′ z Done word steps packed) (sym e)
     record { answer-is = sym a; word-is = w; steps-are = s; packed-is = p; long = long; past = past; refused = λ g. absurd (unlike (sym (done-is ws) ∙ g)); queue-is = λ g. q; sound-is = λ g. b }
 
 the-one : (found : Bool) (entry : ℕ) (out : List ℕ) → oneIf found entry ≡ out → (found ≡ false → entry ≡ 0) → entry ≡ theEntry out
@@ -260,12 +261,12 @@ module _ (ws : List ℕ) (x : Answer) (x-is : x ≡ firstFailing (takeChecks (le
           let array = inside ws (may .long) (may .holds) in
           let after : queueOf (lentOf ws′) ≡ withBuffers (queueOf (lentOf ws)) (taken ws .buffers) = same-queue ws ws′ (taken ws .buffers) array (z .kept) (z .state) in
           let k = take-kept 7 (queueOf (lentOf ws)) (shaped ws array) (kept-now ws (may .long) (may .holds)) in
-          accepted-called ws ws′ (take (lentOf ws)) entry steps false
-          (ap (λ (r : Outcome). r .answer) o)
-          (the-one found entry (taken ws .out) (z .out) (z .none) ∙ sym (ap (λ (r : Outcome). r .word) o))
-          (z .count ∙ sym (ap (λ (r : Outcome). r .steps) o))
-          (sym (ap (λ (r : Outcome). r .packed) o))
-          (after ∙ sym (ap (λ (r : Outcome). r .queue) o))
+          accepted-called ws ws′ (take (lentOf ws)) (take-accepted ws) entry steps false o
+          refl
+          (the-one found entry (taken ws .out) (z .out) (z .none))
+          (z .count)
+          refl
+          after
           (sound-still ws′ (z .array) (z .kept) (z .marks) (z .mark-of-I) (z .fewer-in-I) (subst (rules.Kept 7) (sym after) k))
           (z .kept .long)
           (λ p h. z .kept .past p (rw (kept-links (z .kept)) at h))
@@ -285,12 +286,12 @@ module _ (ws : List ℕ) (x : Answer) (x-is : x ≡ firstFailing (takeChecks (le
           let I-word = word-of-I ws (linksIn ws) can-all ws′ steps d in
           let after : queueOf (lentOf ws′) ≡ withBuffers (queueOf (lentOf ws)) (now .buffers) = same-queue ws ws′ (now .buffers) array (d .kept) (d .state) in
           let k = look-kept 7 (queueOf (lentOf ws)) (shaped ws array) (kept-now ws (may .long) (may .holds)) in
-          accepted-called ws ws′ (look (lentOf ws)) word steps false
-          (ap (λ (r : Outcome). r .answer) o)
-          (w ∙ sym (head-out t step now) ∙ sym (ap (λ (z : Taken). theEntry (z .out)) same) ∙ sym (ap (λ (r : Outcome). r .word) o))
-          (d .count ∙ sym (hand-steps t step now) ∙ sym (ap (λ (z : Taken). z .steps) same) ∙ sym (ap (λ (r : Outcome). r .steps) o))
-          (sym (ap (λ (r : Outcome). r .packed) o))
-          (after ∙ sym (ap (λ (r : Outcome). r .queue) o))
+          accepted-called ws ws′ (look (lentOf ws)) (look-accepted ws) word steps false o
+          refl
+          (w ∙ sym (head-out t step now) ∙ sym (ap (λ (z : Taken). theEntry (z .out)) same))
+          (d .count ∙ sym (hand-steps t step now) ∙ sym (ap (λ (z : Taken). z .steps) same))
+          refl
+          after
           (sound-still ws′ (d .array) (d .kept) (d .marks) (ap markIn I-word) (rw I-word (omega arith)) (subst (rules.Kept 7) (sym after) k))
           (d .kept .long)
           (λ p h. d .kept .past p (rw (kept-links (d .kept)) at h))
@@ -337,12 +338,10 @@ module _ (ws : List ℕ) (x : Answer) (x-is : x ≡ common ws) where
       unfolding held queueOf lentOf bookOf
       held-called =
           let o = held-is ws book-holds in
-          accepted-called ws ws (heldCall (lentOf ws)) n 0 false
-          (ap (λ (r : Outcome). r .answer) o)
-          (n-is ∙ sym (ap (λ (r : Outcome). r .word) o))
-          (sym (ap (λ (r : Outcome). r .steps) o))
-          (sym (ap (λ (r : Outcome). r .packed) o))
-          (sym (ap (λ (r : Outcome). r .queue) o))
+          accepted-called ws ws (heldCall (lentOf ws)) (held-accepted ws) n 0 false o
+          refl
+          n-is
+          refl refl refl
           (book-right ws (may-now .0) (may-now .1))
           refl
           (λ p h. refl)
@@ -372,12 +371,8 @@ module _ (ws : List ℕ) (x : Answer) (x-is : x ≡ common ws) where
       audit-called e =
           let all : firstFailing audit-checks ≡ Done = audit-answer ∙ ap (λ b. elim b [ true ↦ Done | false ↦ OrderBroken ]) e in
           let o : audit (lentOf ws) ≡ audit-accepted = accepted-is (firstFailing audit-checks) (queueOf (lentOf ws)) audit-accepted (ap isDone all ∙ done-is ws) in
-          accepted-called ws ws (audit (lentOf ws)) 0 0 false
-          (ap (λ (r : Outcome). r .answer) o)
-          (sym (ap (λ (r : Outcome). r .word) o))
-          (sym (ap (λ (r : Outcome). r .steps) o))
-          (sym (ap (λ (r : Outcome). r .packed) o))
-          (sym (ap (λ (r : Outcome). r .queue) o))
+          accepted-called ws ws (audit (lentOf ws)) audit-accepted 0 0 false o
+          refl refl refl refl refl
           (book-right ws (may-now .0) (may-now .1))
           refl
           (λ p h. refl)

@@ -7,7 +7,7 @@ use mathlib.Core.List.{List, [], _∷_, _++_}
 use native.Mathlib.Omega.{arith}
 use native.Mathlib.Nat.{add-suc, suc-add, add-zero}
 use native.Mathlib.Numerals.{add-one}
-use borrow.Author.Tests.{le-leb, lt-leb, eq-eqb, eqb-true}
+use borrow.Author.Tests.{le-leb, lt-leb, eq-eqb, ne-eqb}
 use lib.Dec.{T, eqb, leb, leb→le}
 use lib.ListN.{length, getD}
 use Rattle.rules.specs.declared.Answer.{Answer}
@@ -38,11 +38,7 @@ done x e = eq-eqb (numberOf x) 0 e
 
 pub not-done : (x : Answer) → numberOf x ≢ 0 → isDone x ≡ false
 unfolding isDone
-not-done x differ = go (eqb (numberOf x) 0) refl
-  where
-    go : (b : Bool) → eqb (numberOf x) 0 ≡ b → b ≡ false
-    go true e = absurd (differ (eqb-true (numberOf x) 0 e))
-    go false e = refl
+not-done x differ = ne-eqb (numberOf x) 0 differ
 
 pub unlike : true ≡ false → ⊥
 unlike e = subst T e tt

@@ -19,7 +19,7 @@ use Rattle.rules.specs.Calls.{Check, _else_, firstFailing, arrayChecks, insertC
 use Rattle.rules.proofs.Tests.{truth}
 use Rattle.rules.proofs.BookLaws as rules
 use Rattle.rules.proofs.InsertLaws.{inserted-fits}
-use Rattle.buffers.specs.Format.{linksIn, many, bookOf, lentOf, buffersOf}
+use Rattle.buffers.specs.Format.{linksIn, bookOf, lentOf, buffersOf}
 use Rattle.buffers.specs.Post.{Inside}
 use Rattle.buffers.proofs.Exact.{sound-inside}
 use Rattle.queue.proofs.CheckLaws.{array-fails, array-long, others-decide, held-all}

@@ -5,7 +5,7 @@ use mathlib.Core.Logic.{_≢_}
 use mathlib.Core.Bool.{Bool, true, false}
 use mathlib.Core.List.{List, []}
 use native.Mathlib.Omega.{arith}
-use borrow.Author.Tests.{le-leb, lt-leb, eq-eqb, eqb-true}
+use borrow.Author.Tests.{le-leb, lt-leb, eq-eqb, ne-eqb}
 use lib.Dec.{T, T-not, leb, eqb}
 use lib.ListN.{length, set}
 use lib.Seq.{getD-set-other}
@@ -59,15 +59,8 @@ room-when : (q : Queue) (a b : Bool) → eqb (length (insertion (q .buffers))) 8
 unfolding makeRoom
 room-when q a b e f = λ x. elim (e x) [ false ↦ nothing-made q | true ↦ elim (f x) [ true ↦ swept (goal q) q | false ↦ packed q ] ]
 
-unlike-eqb : (m n : ℕ) → m ≢ n → eqb m n ≡ false
-unlike-eqb m n differ = go (eqb m n) refl
-  where
-    go : (b : Bool) → eqb m n ≡ b → b ≡ false
-    go true e = absurd (differ (eqb-true m n e))
-    go false e = refl
-
 room-none : (q : Queue) → length (insertion (q .buffers)) ≢ 8 → makeRoom q ≡ nothing-made q
-room-none q differ = room-when q false (leb (goal q) (q .links)) (unlike-eqb (length (insertion (q .buffers))) 8 differ) refl
+room-none q differ = room-when q false (leb (goal q) (q .links)) (ne-eqb (length (insertion (q .buffers))) 8 differ) refl
 
 room-swept : (q : Queue) → length (insertion (q .buffers)) ≡ 8 → goal q ≤ q .links → makeRoom q ≡ swept (goal q) q
 room-swept q eight there = room-when q true true (eq-eqb (length (insertion (q .buffers))) 8 eight) (le-leb (goal q) (q .links) there)
@@ -307,12 +300,11 @@ module _ (ws work : List ℕ) (entry : ℕ) where
         pub insert-called : Called ws ws₂ (insert (length work) entry (lentOf ws)) Done 0 steps packs
         insert-called =
             let o = insert-is all-hold in
-            accepted-called ws ws₂ (insert (length work) entry (lentOf ws)) 0 steps packs
-            (ap (λ (r : Outcome). r .answer) o)
-            (sym (ap (λ (r : Outcome). r .word) o))
-            (z .made ∙ ap (λ (y : Inserted). y .steps) outcome-is ∙ sym (ap (λ (r : Outcome). r .steps) o))
-            (packs-is ∙ ap (λ (y : Inserted). y .packed) outcome-is ∙ sym (ap (λ (r : Outcome). r .packed) o))
-            (queue₂ ∙ sym (ap (λ (r : Outcome). r .queue) o))
+            accepted-called ws ws₂ (insert (length work) entry (lentOf ws)) accepted 0 steps packs o
+            refl refl
+            (z .made ∙ ap (λ (y : Inserted). y .steps) outcome-is)
+            (packs-is ∙ ap (λ (y : Inserted). y .packed) outcome-is)
+            queue₂
             sound₂
             (z .long ∙ kept₁ .long)
             (λ p far. let same : words (linksIn ws₂) ≤ p = far in z .past p (rw (z .links) at far) ∙ kept₁ .past p (rw links₁ at (rw (z .links) at far)))

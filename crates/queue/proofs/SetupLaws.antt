@@ -111,12 +111,9 @@ module _ (ws : List ℕ) (links : ℕ) where
   setup-called ws′ can b =
       let all : firstFailing checks ≡ Done = answer-now true true (rules.number-is (can .link)) (le-leb (words links) (length ws) (can .enough)) in
       let o : setup links (lentOf ws) ≡ accepted = accepted-is (firstFailing checks) (queueOf (lentOf ws)) accepted (ap isDone all ∙ done-is ws) in
-      accepted-called ws ws′ (setup links (lentOf ws)) 0 0 false
-      (ap (λ (r : Outcome). r .answer) o)
-      (sym (ap (λ (r : Outcome). r .word) o))
-      (sym (ap (λ (r : Outcome). r .steps) o))
-      (sym (ap (λ (r : Outcome). r .packed) o))
-      (fresh-queue ws ws′ links can b ∙ sym (ap (λ (r : Outcome). r .queue) o))
+      accepted-called ws ws′ (setup links (lentOf ws)) accepted 0 0 false o
+      refl refl refl refl
+      (fresh-queue ws ws′ links can b)
       (fresh-sound ws ws′ links can b)
       (b .long)
       (λ p h. b .behind p (omega (arith, words-end (fresh-inside ws ws′ links can b .link), behind-book (bufferCount (linksIn ws′)), few (can .link))))

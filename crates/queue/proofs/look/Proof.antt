@@ -1,7 +1,9 @@
 -- `look` says what the rules' look does, or gives the first failing check.
-use mathlib.Core.Path.{sym, _∙_}
+use mathlib.Core.Path.{_≡_, sym, _∙_}
+use Rattle.rules.specs.Answers.{numberOf}
 use Rattle.rules.specs.Calls.{look}
 use Rattle.buffers.specs.Format.{lentOf}
+use Rattle.queue.specs.Heads.{CanTake}
 use Rattle.queue.proofs.HandLaws.{can-now}
 use Rattle.queue.proofs.CallLaws.{told, look-refused, take-some-words, may-can, look-called}
 use borrow.Author.Needs.{needs}
@@ -29,32 +31,32 @@ returns c =
     let e = c .refusal .ensures in
     told ws ws (look (lentOf ws)) (x .result) _ _ _ _ (e .0) (e .1 .0) (e .1 .1 .0) (e .1 .1 .1) (look-refused ws (x .result) (x .ensures) (λ e. el .if1 .taken (no .number-of .ensures ∙ e)))
 
+-- where no check fails
+none : (c : tie.Else1) → numberOf (c .before .before .checked-for-take .result) ≡ 0
+none c = sym (c .before .number-of .ensures) ∙ c .if1 .left
+
 links-requires : tie.Need-links-requires
 links-requires c κs =
     let el = c .before in
-    let no = el .before in
-    let x = no .before .checked-for-take in
-    let ws = no .before .before .before .before .args .a .now in
-    take-some-words ws (x .result) (x .ensures) (sym (no .number-of .ensures) ∙ el .if1 .left)
+    let x = el .before .before in
+    let ws = x .before .before .before .args .a .now in
+    take-some-words ws (x .checked-for-take .result) (x .checked-for-take .ensures) (none el)
+
+-- where the link number is read, a take can be made
+can : (li : tie.After-links) → CanTake (li .before .before .before .before .before .before .before .args .a .now) (li .links .result)
+can li =
+    let el = li .before .before in
+    let x = el .before .before in
+    let ws = x .before .before .before .args .a .now in
+    may-can ws (x .checked-for-take .result) (x .checked-for-take .ensures) (none el) _ (li .links .ensures)
 
 make-ready-requires : tie.Need-make-ready-requires
-make-ready-requires c κs =
-    let li = c .before in
-    let el = li .before .before in
-    let no = el .before in
-    let x = no .before .checked-for-take in
-    let ws = no .before .before .before .before .args .a .now in
-    may-can ws (x .result) (x .ensures) (sym (no .number-of .ensures) ∙ el .if1 .left) _ (li .links .ensures)
+make-ready-requires c κs = can (c .before)
 
 head-now-requires : tie.Need-head-now-requires
 head-now-requires c κs =
     let ma = c .before .before .before in
-    let li = ma .before .before in
-    let el = li .before .before in
-    let no = el .before in
-    let x = no .before .checked-for-take in
-    let ws = no .before .before .before .before .args .a .now in
-    can-now ws _ (may-can ws (x .result) (x .ensures) (sym (no .number-of .ensures) ∙ el .if1 .left) _ (li .links .ensures)) _ _ (ma .make-ready .ensures)
+    can-now _ _ (can (ma .before .before)) _ _ (ma .make-ready .ensures)
 
 same-length-2 : tie.Need-same-length-2
 same-length-2 c = search needs
@@ -64,10 +66,9 @@ returns-2 c =
     let ma = c .before .before .before .before in
     let li = ma .before .before in
     let el = li .before .before in
-    let no = el .before in
-    let x = no .before .checked-for-take in
-    let ws = no .before .before .before .before .args .a .now in
-    look-called ws (x .result) (x .ensures) (sym (no .number-of .ensures) ∙ el .if1 .left) _ (li .links .ensures) _ _ _ (ma .make-ready .ensures) (c .head-now .ensures)
+    let x = el .before .before in
+    let ws = x .before .before .before .args .a .now in
+    look-called ws (x .checked-for-take .result) (x .checked-for-take .ensures) (none el) _ (li .links .ensures) _ _ _ (ma .make-ready .ensures) (c .head-now .ensures)
 
 pub look-spec : {M : Type 1} → statement M
 look-spec =

@@ -1,5 +1,6 @@
 -- `take` hands out what the rules' take does, or gives the first failing check.
-use mathlib.Core.Path.{sym, _∙_}
+use mathlib.Core.Path.{_≡_, sym, _∙_}
+use Rattle.rules.specs.Answers.{numberOf}
 use Rattle.rules.specs.Calls.{take}
 use Rattle.buffers.specs.Format.{lentOf}
 use Rattle.queue.proofs.CallLaws.{told, take-refused, take-some-words, may-can, take-called}
@@ -28,22 +29,24 @@ returns c =
     let e = c .refusal .ensures in
     told ws ws (take (lentOf ws)) (x .result) _ _ _ _ (e .0) (e .1 .0) (e .1 .1 .0) (e .1 .1 .1) (take-refused ws (x .result) (x .ensures) (λ e. el .if1 .taken (no .number-of .ensures ∙ e)))
 
+-- where no check fails
+none : (c : tie.Else1) → numberOf (c .before .before .checked-for-take .result) ≡ 0
+none c = sym (c .before .number-of .ensures) ∙ c .if1 .left
+
 links-requires : tie.Need-links-requires
 links-requires c κs =
     let el = c .before in
-    let no = el .before in
-    let x = no .before .checked-for-take in
-    let ws = no .before .before .before .before .args .a .now in
-    take-some-words ws (x .result) (x .ensures) (sym (no .number-of .ensures) ∙ el .if1 .left)
+    let x = el .before .before in
+    let ws = x .before .before .before .args .a .now in
+    take-some-words ws (x .checked-for-take .result) (x .checked-for-take .ensures) (none el)
 
 take-one-requires : tie.Need-take-one-requires
 take-one-requires c κs =
     let li = c .before in
     let el = li .before .before in
-    let no = el .before in
-    let x = no .before .checked-for-take in
-    let ws = no .before .before .before .before .args .a .now in
-    may-can ws (x .result) (x .ensures) (sym (no .number-of .ensures) ∙ el .if1 .left) _ (li .links .ensures)
+    let x = el .before .before in
+    let ws = x .before .before .before .args .a .now in
+    may-can ws (x .checked-for-take .result) (x .checked-for-take .ensures) (none el) _ (li .links .ensures)
 
 same-length-2 : tie.Need-same-length-2
 same-length-2 c = search needs
@@ -53,10 +56,9 @@ returns-2 c =
     let ta = c .before .before in
     let li = ta .before .before in
     let el = li .before .before in
-    let no = el .before in
-    let x = no .before .checked-for-take in
-    let ws = no .before .before .before .before .args .a .now in
-    take-called ws (x .result) (x .ensures) (sym (no .number-of .ensures) ∙ el .if1 .left) _ (li .links .ensures) _ _ _ _ (ta .take-one .ensures)
+    let x = el .before .before in
+    let ws = x .before .before .before .args .a .now in
+    take-called ws (x .checked-for-take .result) (x .checked-for-take .ensures) (none el) _ (li .links .ensures) _ _ _ _ (ta .take-one .ensures)
 
 pub take-spec : {M : Type 1} → statement M
 take-spec =
