@@ -18,7 +18,7 @@ use Rattle.rules.proofs.Table.{and-one as T-one, and-two as T-two, k-least, k-m
 use Rattle.buffers.specs.Slots.{capacityOf}
 use Rattle.buffers.specs.Format.{linksIn, counterIn, wordOf, countOf, startOf, markOf, many, bookOf}
 use Rattle.buffers.specs.Rules.{Part, whole, inOne, inTwo, heldUnder, topMarked, LinkRules, Rules}
-use Rattle.buffers.specs.Weights.{weigh, countsFrom, weight, room, linksWeight, weighsRight}
+use Rattle.buffers.specs.Weights.{weigh, countsFrom, weight, room, linksWeight, weighsRight, heldIfSound}
 use Rattle.buffers.specs.Post.{Inside}
 use Rattle.buffers.proofs.SlotLaws.{capacity-is}
 use Rattle.buffers.proofs.ArrayLaws.{each-at}
@@ -291,6 +291,13 @@ module _ (ws : List ℕ) where
               count-is ws (first i + k i + (j - 1)) lt
               ∙ counts-none ws (first i + (k i + (counterIn ws i - 1))) (2 * k i - (k i + (counterIn ws i - 1))) (room-i .none) (first i + k i + (j - 1)) (omega (arith, room-i .one)) (omega (arith, room-i .one))
 
+    whole-weight : weight ws (treeOf L) ≡ linksWeight ws 1 L
+    whole-weight = tree-is L ∙ all-kept .is
+
+    -- all buffers together have what they weigh
+    pub weights-held : together b 0 (bufferCount L) ≡ inserted + linksWeight ws 1 L
+    weights-held = omega (arith, all-held b number, count-is ws 0 some-buffers, I-kept .is, kept-tree .held, whole-weight)
+
     pub weights-rules : Rules b
     weights-rules = record {
       linkNumber = rw (links-is ws) number;
@@ -302,11 +309,8 @@ module _ (ws : List ℕ) where
       marks = subst (λ l. (t : Tree) → Part t (treeOf l) → topMarked b t ≡ true → heldUnder b t ≡ 0) (sym (links-is ws)) (kept-tree .marks);
     }
       where
-        whole-weight : weight ws (treeOf L) ≡ linksWeight ws 1 L
-        whole-weight = tree-is L ∙ all-kept .is
-
         not-over : together b 0 (bufferCount L) ≤ most L
-        not-over = omega (arith, all-held b number, count-is ws 0 some-buffers, I-kept .is, kept-tree .held, whole-weight, total)
+        not-over = omega (arith, weights-held, total)
 
   -- ---- from the rules to the weights
 
@@ -448,3 +452,50 @@ pub sound-inside : (ws : List ℕ) → sound (bookOf ws) ≡ true → words (lin
 sound-inside ws h long =
     let r = sound-rules (bookOf ws) h in
     record { link = number-of ws r; long = long; fits = rules-fit ws r }
+
+-- ---- what the test hands back
+
+module _ (ws : List ℕ) where
+  abbrev all : ℕ
+  all = together (bookOf ws) 0 (bufferCount (bookOf ws .links))
+
+  handed : (t : Bool) → sound (bookOf ws) ≡ t → heldIfSound (bookOf ws) ≡ elim t [ true ↦ all | false ↦ 65536 ]
+  unfolding heldIfSound
+  handed t e = ap (λ t. elim t [ true ↦ all | false ↦ 65536 ]) e
+
+  pub broken-weighs : weighsRight ws ≡ false → 65536 ≡ heldIfSound (bookOf ws)
+  broken-weighs wrong = sym (handed false (sym (exact ws) ∙ wrong))
+
+  pub held-weighs : weighsRight ws ≡ true → (inserted held : ℕ) → inserted ≡ weigh (wordOf ws 0) 8 0 → held ≡ linksWeight ws 1 (linksIn ws) → inserted + held ≡ heldIfSound (bookOf ws)
+  held-weighs right inserted held i h =
+      let is : all ≡ weigh (wordOf ws 0) 8 0 + linksWeight ws 1 (linksIn ws) = subst (λ l. together (bookOf ws) 0 (bufferCount l) ≡ weigh (wordOf ws 0) 8 0 + linksWeight ws 1 (linksIn ws)) (sym (links-is ws)) (weights-held ws right) in
+      omega (arith, i, h, is, handed true (sym (exact ws) ∙ right))
+
+  all-small : sound (bookOf ws) ≡ true → all < 65536
+  all-small right = let r = sound-rules (bookOf ws) right in omega (arith, r .atMostH, most-small (r .linkNumber))
+
+  -- n is what it hands back
+  module _ (n : ℕ) (n-is : n ≡ heldIfSound (bookOf ws)) where
+    pub held-all : sound (bookOf ws) ≡ true → n ≡ together (bookOf ws) 0 (many ws)
+    held-all right = n-is ∙ handed true right ∙ ap (λ l. together (bookOf ws) 0 (bufferCount l)) (links-is ws)
+
+    pub below-broken : n < 65536 → sound (bookOf ws) ≡ true
+    below-broken less = go (sound (bookOf ws)) refl
+      where
+        go : (t : Bool) → sound (bookOf ws) ≡ t → t ≡ true
+        go true e = refl
+        go false e = absurd (omega (arith, n-is, handed false e))
+
+    pub not-below : 65536 ≤ n → sound (bookOf ws) ≡ false
+    not-below more = go (sound (bookOf ws)) refl
+      where
+        go : (t : Bool) → sound (bookOf ws) ≡ t → t ≡ false
+        go true e = absurd (omega (arith, n-is, handed true e, all-small e))
+        go false e = refl
+
+    pub below-exactly : ltb n 65536 ≡ sound (bookOf ws)
+    below-exactly = go (decLt n 65536)
+      where
+        go : Dec (n < 65536) → ltb n 65536 ≡ sound (bookOf ws)
+        go (yes less) = le-leb (suc n) 65536 (omega arith) ∙ sym (below-broken less)
+        go (no more) = lt-leb (suc n) 65536 (omega arith) ∙ sym (not-below (omega arith))

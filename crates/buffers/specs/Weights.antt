@@ -6,10 +6,10 @@ use mathlib.Core.Logic.{_⊎_}
 use mathlib.Core.List.{List}
 use lib.ListN.{length, getD}
 use lib.Dec.{leb, ltb, eqb}
-use Rattle.rules.specs.Links.{s, k, first, capacity, most, LinkNumber}
+use Rattle.rules.specs.Links.{s, k, first, capacity, bufferCount, most, LinkNumber}
 use Rattle.rules.specs.Tree.{Tree, exhausted, buffer, merger, kMerger}
 use Rattle.rules.specs.Tests.{_and_, _implies_}
-use Rattle.rules.specs.Book.{isLinkNumber}
+use Rattle.rules.specs.Book.{Book, isLinkNumber, together, sound}
 use Rattle.buffers.specs.Format.{countIn, markIn, startIn, linksIn, counterIn, wordOf, countOf}
 
 -- more than any queue holds, and more than any count
@@ -63,6 +63,11 @@ module _ (ws : List ℕ) where
   weighsRight =
       let inserted = weigh (wordOf ws 0) 8 0 in
       isLinkNumber (linksIn ws) and leb inserted 7 and leb (inserted + linksWeight 1 (linksIn ws)) (most (linksIn ws))
+
+-- what the whole test hands back: how many entries all buffers have together, where the book keeps every rule
+unfoldable pub heldIfSound : Book → ℕ
+unfolding sound together bufferCount
+heldIfSound b = elim (sound b) [ true ↦ together b 0 (bufferCount (b .links)) | false ↦ broken ]
 
 -- ---- what the parts of the test ask and ensure
 

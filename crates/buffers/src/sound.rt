@@ -3,11 +3,11 @@ ghost use mathlib.Core.Path.{_≡_};
 ghost use Prim.Native.Nat.{_≤_};
 ghost use Rattle.rules.specs.Book.{sound};
 ghost use Rattle.buffers.specs.Format.{bookOf};
-ghost use Rattle.buffers.specs.Weights.{wordRight, weigh, HasBook, Stretch, Stretched, Level, Levelled, OfLink, RoomLeft, Merging, Weighed, AllLinks, AllWeighed};
+ghost use Rattle.buffers.specs.Weights.{wordRight, weigh, heldIfSound, HasBook, Stretch, Stretched, Level, Levelled, OfLink, RoomLeft, Merging, Weighed, AllLinks, AllWeighed};
 use rules::Link;
 
 // More than any queue holds.
-const BROKEN: u64 = 65536;
+pub const BROKEN: u64 = 65536;
 
 // Whether a buffer's word keeps the rules; so many entries are held in it and below it.
 fn right(w: u64, capacity: u64, held: u64) -> bool
@@ -155,23 +155,34 @@ fn links(a: &[u64], l: usize, below: &mut [u64; 32]) -> u64
     mergers(a, 1, held, room, below)
 }
 
+// How many entries are held; BROKEN where the book breaks a book rule.
+pub fn weighed(a: &[u64]) -> u64
+    requires { ⌜ HasBook (now a) ⌝ }
+    ensures { λ r. ⌜ r ≡ heldIfSound (bookOf (now (a .entry))) ⌝ }
+{
+    let l = a[0] as usize;
+    if l < 1 {
+        return BROKEN;
+    }
+    if Link::MOST < l {
+        return BROKEN;
+    }
+    let inserted = weigh(a[8], Link::INSERTION as u64, 0);
+    if 7 < inserted {
+        return BROKEN;
+    }
+    let mut below = [0u64; 32];
+    let held = inserted + links(a, l, &mut below);
+    if (Link::at(l).most() as u64) < held {
+        return BROKEN;
+    }
+    held
+}
+
 // Whether the book keeps every book rule.
 pub fn book_sound(a: &[u64]) -> bool
     requires { ⌜ HasBook (now a) ⌝ }
     ensures { λ r. ⌜ r ≡ sound (bookOf (now (a .entry))) ⌝ }
 {
-    let l = a[0] as usize;
-    if l < 1 {
-        return false;
-    }
-    if Link::MOST < l {
-        return false;
-    }
-    let inserted = weigh(a[8], Link::INSERTION as u64, 0);
-    if 7 < inserted {
-        return false;
-    }
-    let mut below = [0u64; 32];
-    let held = links(a, l, &mut below);
-    inserted + held <= Link::at(l).most() as u64
+    weighed(a) < BROKEN
 }

@@ -106,7 +106,7 @@ module _ (b : Book) (q : Queue) (describes : Describes b q) where
   unfolding c counter
   c-is i = ap (λ cs. getD cs (i - 1) 0) (describes .counters)
 
-  together-is : (m n : ℕ) → together b m n ≡ heldFrom m n (q .buffers)
+  pub together-is : (m n : ℕ) → together b m n ≡ heldFrom m n (q .buffers)
   unfolding together heldFrom
   together-is m zero = refl
   together-is m (suc n) = omega (arith, describes .counts m, together-is (suc m) n)
