@@ -10,7 +10,7 @@ use lib.ListN.{length, getD, List·getD-eq-default}
 use Rattle.rules.specs.Links.{from, k, first, numberOfS, bufferCount, LinkNumber}
 use Rattle.rules.specs.Tree.{Tree, exhausted, buffer, merger, treeOf}
 use Rattle.rules.specs.Take.{heldIn}
-use Rattle.rules.specs.Queue.{Queue}
+use Rattle.rules.specs.Queue.{Queue, held}
 use Rattle.rules.specs.Book.{Book, count, c, together, sound, plainBook}
 use Rattle.rules.specs.Calls.{queueOf}
 use Rattle.rules.proofs.Tests.{truth}
@@ -23,11 +23,12 @@ use Rattle.rules.proofs.BookKept.{Shaped}
 use Rattle.buffers.specs.Format.{linksIn, countOf, markOf, counterIn, many, bookOf, lentOf, buffersOf}
 use Rattle.buffers.specs.Slots.{capacityOf}
 use Rattle.buffers.specs.Post.{Inside}
+use Rattle.buffers.specs.Weights.{heldIfSound}
 use Rattle.buffers.specs.Rules.{Part, whole, inOne, inTwo, heldUnder, topMarked, LinkRules, Rules}
 use Rattle.buffers.proofs.SlotLaws.{some, capacity-is}
 use Rattle.buffers.proofs.ArrayLaws.{has, length-each, buffer-length, buffers-at, buffers-length}
 use Rattle.buffers.proofs.RuleLaws.{sound-rules, rules-sound}
-use Rattle.buffers.proofs.Exact.{count-is, start-is, mark-is}
+use Rattle.buffers.proofs.Exact.{count-is, start-is, mark-is, held-all}
 use Rattle.mergers.specs.Fills.{MarksRight}
 
 count-past : (ws : List ℕ) (n : ℕ) → many ws ≤ n → count (bookOf ws) n ≡ 0
@@ -67,6 +68,11 @@ module _ (ws : List ℕ) (array : Inside ws) where
   pub shaped : Shaped q
   unfolding queueOf lentOf bookOf
   shaped = record { counters = length-each (counterIn ws) 1 (linksIn ws); buffers = buffers-length ws }
+
+  -- what the book test hands back for a sound book is all that is held
+  pub weighed-held : (n : ℕ) → n ≡ heldIfSound b → sound b ≡ true → n ≡ held q
+  unfolding held queueOf lentOf bookOf
+  weighed-held n n-is right = held-all ws n n-is right ∙ rules.together-is b q describes 0 (many ws)
 
   -- ---- marks
 

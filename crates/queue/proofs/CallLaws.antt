@@ -17,7 +17,7 @@ use Rattle.rules.specs.Tree.{Buffers, Tree, entries, treeOf, linksFrom}
 use Rattle.rules.specs.Merge.{Step, stop, move, mergeStep}
 use Rattle.rules.specs.Fill.{Filled}
 use Rattle.rules.specs.Take.{Taken, takeOne, ready, handOut, insertion}
-use Rattle.rules.specs.Queue.{Queue, keyOf, held, heldFrom}
+use Rattle.rules.specs.Queue.{Queue, keyOf, held}
 use Rattle.rules.specs.Order.{inOrder}
 use Rattle.rules.specs.Book.{sound, count}
 use Rattle.rules.specs.Calls.{Lent, Outcome, Check, _else_, firstFailing, refused, unless, arrayChecks, takeChecks, queueOf, withBuffers, theEntry, take, look, heldCall, audit}
@@ -326,16 +326,11 @@ module _ (ws : List ℕ) (x : Answer) (x-is : x ≡ common ws) where
     may-now : Long (lentOf ws) × T (sound (lentOf ws .book))
     may-now = may-hold ws x x-is none-fails
 
-    pub some-words : 0 < length ws
-    unfolding lentOf
-    some-words = omega (arith, may-now .0 .shortest, shortest ws)
-
     pub held-inside : Inside ws
     held-inside = inside ws (may-now .0) (may-now .1)
 
-    module _ (n : ℕ) (n-is : n ≡ heldFrom 0 (many ws) (buffersOf ws)) where
+    module _ (n : ℕ) (n-is : n ≡ held (queueOf (lentOf ws))) where
       pub held-called : Called ws ws (heldCall (lentOf ws)) Done n 0 false
-      unfolding held queueOf lentOf bookOf
       held-called =
           let o = held-is ws book-holds in
           accepted-called ws ws (heldCall (lentOf ws)) (held-accepted ws) n 0 false o
@@ -347,7 +342,7 @@ module _ (ws : List ℕ) (x : Answer) (x-is : x ≡ common ws) where
           (λ p h. refl)
 
       last-check : (b : Bool) → ltb 0 n ≡ b → firstFailing (takeChecks (lentOf ws)) ≡ elim b [ true ↦ Done | false ↦ NoneHeld ]
-      unfolding firstFailing held queueOf lentOf bookOf
+      unfolding firstFailing
       last-check b e = passed ws x x-is none-fails ∙ ap (λ m. firstFailing ((ltb 0 m else NoneHeld) ∷ [])) (sym n-is) ∙ ap (λ t. firstFailing ((t else NoneHeld) ∷ [])) e
 
       -- "6 | nothing held"

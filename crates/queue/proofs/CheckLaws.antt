@@ -15,9 +15,9 @@ use Rattle.rules.specs.declared.Answer.the-variants.{Done, ArrayShort, BookBrok
 use Rattle.rules.specs.Answers.{numberOf, isDone}
 use Rattle.rules.specs.Links.{first, bufferCount, words, mostLinks, LinkNumber}
 use Rattle.rules.specs.Tree.{Buffers}
-use Rattle.rules.specs.Queue.{heldFrom}
+use Rattle.rules.specs.Queue.{held, heldFrom}
 use Rattle.rules.specs.Book.{isLinkNumber, sound}
-use Rattle.rules.specs.Calls.{firstFailing, arrayChecks, Check, _else_}
+use Rattle.rules.specs.Calls.{firstFailing, arrayChecks, queueOf, Check, _else_}
 use Rattle.rules.proofs.Tests.{truth}
 use Rattle.rules.proofs.Table.{words-at}
 use Rattle.rules.proofs.Sizes.{first-mono}
@@ -25,10 +25,12 @@ use Rattle.rules.proofs.BookLaws.{number-is}
 use Rattle.rules.proofs.Accepted.{Long}
 use Rattle.buffers.specs.Format.{linksIn, bookOf, lentOf, countOf, bufferOf, buffersOf, many}
 use Rattle.buffers.specs.Post.{Inside}
-use Rattle.buffers.specs.Weights.{HasBook}
+use Rattle.buffers.specs.Weights.{HasBook, heldIfSound}
 use Rattle.buffers.proofs.SlotLaws.{few}
 use Rattle.buffers.proofs.RuleLaws.{link-number}
 use Rattle.buffers.proofs.ArrayLaws.{has, buffer-length, buffers-at}
+use Rattle.buffers.proofs.Exact.{sound-inside, below-broken}
+use Rattle.queue.proofs.BookLaws.{weighed-held}
 
 -- ---- answers
 
@@ -42,6 +44,9 @@ not-done x differ = ne-eqb (numberOf x) 0 differ
 
 pub unlike : true ≡ false → ⊥
 unlike e = subst T e tt
+
+pub broken-refuses : numberOf BookBroken ≢ 0
+broken-refuses e = omega (arith, e)
 
 -- ---- checks one after the other
 
@@ -163,6 +168,13 @@ module _ (ws : List ℕ) where
       pub book-wrong : sound (bookOf ws) ≡ false → BookBroken ≡ firstFailing (arrayChecks (lentOf ws) ((sound (bookOf ws) else BookBroken) ∷ []))
       book-wrong e = book-decides false e
 
+      -- n is what the book test hands back
+      pub book-held : (n : ℕ) → n ≡ heldIfSound (bookOf ws) → n < 65536 → n ≡ held (queueOf (lentOf ws))
+      unfolding lentOf bookOf
+      book-held n n-is less =
+          let right = below-broken ws n n-is less in
+          weighed-held ws (sound-inside ws right (array-long .enough)) n n-is right
+
 -- ---- sums of counts
 
 held-last : (b n : ℕ) (bs : Buffers) → heldFrom b (suc n) bs ≡ heldFrom b n bs + length (getD bs (b + n) [])
@@ -209,7 +221,3 @@ sum-more ws links end n sum c h before s e =
 
 pub sum-all : (ws : List ℕ) (links end n sum : ℕ) → FirstLinks ws links end → end ≤ n → Summed ws end n sum → sum ≡ heldFrom 0 (bufferCount links) (buffersOf ws)
 sum-all ws links end n sum h past s = let all : n ≡ bufferCount links = omega (arith, s .within, h .is) in s .is ∙ ap (λ n. heldFrom 0 n (buffersOf ws)) all
-
--- the sum over so many links as the book says is all that is held
-pub held-all : (ws : List ℕ) (l n : ℕ) → l ≡ linksIn ws → n ≡ heldFrom 0 (bufferCount l) (buffersOf ws) → n ≡ heldFrom 0 (many ws) (buffersOf ws)
-held-all ws l n l-is n-is = n-is ∙ ap (λ l. heldFrom 0 (bufferCount l) (buffersOf ws)) l-is

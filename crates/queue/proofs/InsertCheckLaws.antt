@@ -11,19 +11,20 @@ use Rattle.rules.specs.declared.Answer.{Answer}
 use Rattle.rules.specs.declared.Answer.the-variants.{Done, WorkShort, BookBroken, Full, DoorAbove, NoPlace}
 use Rattle.rules.specs.Answers.{numberOf}
 use Rattle.rules.specs.Entries.{door}
-use Rattle.rules.specs.Links.{most, bufferCount}
-use Rattle.rules.specs.Queue.{Queue, held, heldFrom}
+use Rattle.rules.specs.Links.{most}
+use Rattle.rules.specs.Queue.{Queue, held}
 use Rattle.rules.specs.Insert.{inserted}
 use Rattle.rules.specs.Book.{sound}
 use Rattle.rules.specs.Calls.{Check, _else_, firstFailing, arrayChecks, insertChecks, queueOf}
 use Rattle.rules.proofs.Tests.{truth}
 use Rattle.rules.proofs.BookLaws as rules
 use Rattle.rules.proofs.InsertLaws.{inserted-fits}
-use Rattle.buffers.specs.Format.{linksIn, bookOf, lentOf, buffersOf}
+use Rattle.buffers.specs.Format.{linksIn, bookOf, lentOf}
 use Rattle.buffers.specs.Post.{Inside}
+use Rattle.buffers.specs.Weights.{heldIfSound}
 use Rattle.buffers.proofs.Exact.{sound-inside}
-use Rattle.queue.proofs.CheckLaws.{array-fails, array-long, others-decide, held-all}
-use Rattle.queue.proofs.BookLaws.{describes, shaped}
+use Rattle.queue.proofs.CheckLaws.{array-fails, array-long, others-decide}
+use Rattle.queue.proofs.BookLaws.{describes, shaped, weighed-held}
 
 -- "then insert 3, 4, 7, 5, 8"
 abbrev five : Bool → Bool → Bool → Bool → Bool → List Check
@@ -82,14 +83,13 @@ module _ (ws : List ℕ) (work entry l m : ℕ) (h : Right ws work l m) where
   unfolding firstFailing door
   insert-door-above above = last-checks false _ _ (lt-leb (door entry) 2 above) refl refl
 
-  module _ (known : entry / 16777216 % 256 ≤ 2) (n : ℕ) (n-is : n ≡ heldFrom 0 (bufferCount l) (buffersOf ws)) where
+  module _ (known : entry / 16777216 % 256 ≤ 2) (n : ℕ) (n-is : n ≡ heldIfSound (bookOf ws)) where
     door-is : leb (door entry) 2 ≡ true
     unfolding door
     door-is = le-leb (door entry) 2 known
 
     held-is : held (q ws) ≡ n
-    unfolding held queueOf lentOf bookOf
-    held-is = sym (held-all ws l n (h .link-is) n-is)
+    held-is = sym (weighed-held ws insert-inside n n-is (h .right))
 
     -- "5 | queue full"
     pub insert-full : m ≤ n → Full ≡ firstFailing (insertChecks work entry (lentOf ws))

@@ -15,7 +15,8 @@ ghost use Rattle.rules.specs.Calls.{firstFailing, arrayChecks, insertChecks, ta
 ghost use Rattle.rules.specs.Calls as rules;
 ghost use mathlib.Core.Bool.{true, false};
 ghost use Rattle.rules.specs.Book.{sound};
-ghost use Rattle.rules.specs.Queue.{heldFrom};
+ghost use Rattle.rules.specs.Answers.{numberOf};
+ghost use Rattle.rules.specs.Queue.{held, heldFrom};
 ghost use Rattle.buffers.specs.Format.{bookOf, lentOf, linksIn};
 ghost use Rattle.rules.specs.Links.{bufferCount};
 ghost use Rattle.buffers.specs.Post.{Inside};
@@ -174,18 +175,35 @@ fn array_checked(a: &[u64]) -> Answer
     Answer::Done
 }
 
+// What checks answer, and how many entries are held where none fails.
+pub struct Found {
+    pub answer: Answer,
+    pub held: u64,
+}
+
 // The array's checks, then 4 (the book).
-fn checked(a: &[u64]) -> Answer
-    ensures { λ r. ⌜ r ≡ firstFailing (arrayChecks (lentOf (now (a .entry))) ((sound (bookOf (now (a .entry))) else Answer.BookBroken) ∷ [])) ⌝ }
+fn checked(a: &[u64]) -> Found
+    ensures { λ r. ⌜ r .answer ≡ firstFailing (arrayChecks (lentOf (now (a .entry))) ((sound (bookOf (now (a .entry))) else Answer.BookBroken) ∷ [])) ⌝ }
+    ensures { λ r. ⌜ (numberOf (r .answer) ≡ 0 → r .held ≡ held (queueOf (lentOf (now (a .entry))))) ⌝ }
 {
     let found = array_checked(a);
     if rules::number_of(found) != 0 {
-        return found;
+        return Found {
+            answer: found,
+            held: 0,
+        };
     }
-    if buffers::sound::book_sound(a) {
-        return Answer::Done;
+    let held = buffers::sound::weighed(a);
+    if held < buffers::sound::BROKEN {
+        return Found {
+            answer: Answer::Done,
+            held,
+        };
     }
-    Answer::BookBroken
+    Found {
+        answer: Answer::BookBroken,
+        held: 0,
+    }
 }
 
 // How many entries stand in I and in the first links, so many of them.
@@ -254,10 +272,11 @@ fn checked_for_take(a: &[u64]) -> Answer
     ensures { λ r. ⌜ r ≡ firstFailing (takeChecks (lentOf (now (a .entry)))) ⌝ }
 {
     let found = checked(a);
-    if rules::number_of(found) != 0 {
-        return found;
+    let answer = found.answer;
+    if rules::number_of(answer) != 0 {
+        return answer;
     }
-    if held_now(a, buffers::counters::links(a) as usize) == 0 {
+    if found.held == 0 {
         return Answer::NoneHeld;
     }
     Answer::Done
@@ -317,13 +336,13 @@ pub fn held(a: &[u64]) -> Outcome
     ensures { λ r. ⌜ Called (now (a .entry)) (now (a .entry)) (rules.heldCall (lentOf (now (a .entry)))) (r .answer) (r .word) (r .steps) (r .packed) ⌝ }
 {
     let found = checked(a);
-    if rules::number_of(found) != 0 {
-        return refusal(found);
+    let answer = found.answer;
+    if rules::number_of(answer) != 0 {
+        return refusal(answer);
     }
-    let word = held_now(a, buffers::counters::links(a) as usize);
     Outcome {
         answer: Answer::Done,
-        word,
+        word: found.held,
         steps: 0,
         packed: false,
     }
@@ -333,7 +352,7 @@ pub fn held(a: &[u64]) -> Outcome
 pub fn audit(a: &[u64]) -> Outcome
     ensures { λ r. ⌜ Called (now (a .entry)) (now (a .entry)) (rules.audit (lentOf (now (a .entry)))) (r .answer) (r .word) (r .steps) (r .packed) ⌝ }
 {
-    let found = checked(a);
+    let found = checked(a).answer;
     if rules::number_of(found) != 0 {
         return refusal(found);
     }
@@ -424,13 +443,14 @@ fn checked_for_insert(a: &[u64], work: usize, entry: u64) -> Answer
     if work < most {
         return Answer::WorkShort;
     }
-    if !buffers::sound::book_sound(a) {
+    let held = buffers::sound::weighed(a);
+    if buffers::sound::BROKEN <= held {
         return Answer::BookBroken;
     }
     if 2 < entry / 16777216 % 256 {
         return Answer::DoorAbove;
     }
-    if most as u64 <= held_now(a, link) {
+    if most as u64 <= held {
         return Answer::Full;
     }
     Answer::Done

@@ -1,12 +1,12 @@
 -- `checked_for_insert` gives the first failing check of insert.
 use mathlib.Core.Path.{_≡_, sym, ap, _∙_}
 use native.Mathlib.Omega.{arith}
-use borrow.Author.Tests.{not-true, not-false}
 use Rattle.rules.specs.Answers.{numberOf}
 use Rattle.rules.specs.Links.{most}
 use Rattle.buffers.specs.Format.{linksIn}
+use Rattle.buffers.proofs.Exact.{below-broken, not-below}
 use Rattle.queue.proofs.CheckLaws.{has-words, has-book, has-link}
-use Rattle.queue.proofs.InsertCheckLaws.{insert-array-fails, insert-work-short, insert-book-wrong, Right, insert-inside, insert-door-above, insert-full, insert-done}
+use Rattle.queue.proofs.InsertCheckLaws.{insert-array-fails, insert-work-short, insert-book-wrong, Right, insert-door-above, insert-full, insert-done}
 use borrow.Author.Needs.{needs}
 use Rattle.queue.proofs.checked_for_insert.Statement.{statement}
 use Rattle.queue.proofs.checked_for_insert.Tie as tie
@@ -55,8 +55,8 @@ returns-2 c =
     let st = x .before .before in
     insert-work-short (st .args .a .now) (st .args .work) (st .args .entry) (x .array-checked .result) (x .array-checked .ensures) (none el) (omega (arith, most-is (c .before), c .if2 .taken))
 
-book-sound-requires : tie.Need-book-sound-requires
-book-sound-requires c κs =
+weighed-requires : tie.Need-weighed-requires
+weighed-requires c κs =
     let el = c .before .before .before .before in
     let x = el .before .before in
     has-book (x .before .before .args .a .now) (x .array-checked .result) (x .array-checked .ensures) (none el)
@@ -68,7 +68,7 @@ returns-3 c =
     let el = mo .before .before .before in
     let x = el .before .before in
     let st = x .before .before in
-    insert-book-wrong (st .args .a .now) (st .args .work) (st .args .entry) (x .array-checked .result) (x .array-checked .ensures) (none el) (omega (arith, most-is mo, bo .before .if2 .left)) (sym (bo .book-sound .ensures) ∙ not-true _ (c .if3 .taken))
+    insert-book-wrong (st .args .a .now) (st .args .work) (st .args .entry) (x .array-checked .result) (x .array-checked .ensures) (none el) (omega (arith, most-is mo, bo .before .if2 .left)) (not-below (st .args .a .now) _ (bo .weighed .ensures) (c .if3 .taken))
 
 abbrev start : tie.Else3 → tie.Start
 start c = c .before .before .before .before .before .before .before .before .before .before
@@ -87,30 +87,25 @@ known c =
       link-is = mo .before .before .links .ensures;
       most-is = most-is mo;
       room = omega (arith, bo .before .if2 .left);
-      right = sym (bo .book-sound .ensures) ∙ not-false _ (c .if3 .left);
+      right = below-broken (start c .args .a .now) _ (bo .weighed .ensures) (c .if3 .left);
     }
 
 returns-4 : tie.Need-returns-4
 returns-4 c = insert-door-above (start (c .before) .args .a .now) (start (c .before) .args .work) (start (c .before) .args .entry) _ _ (known (c .before)) (c .if4 .taken)
 
-held-now-requires : tie.Need-held-now-requires
-held-now-requires c κs =
-    let k = known (c .before) in
-    (insert-inside (start (c .before) .args .a .now) (start (c .before) .args .work) (start (c .before) .args .entry) _ _ k, omega (arith, k .link-is))
-
 returns-5 : tie.Need-returns-5
 returns-5 c =
-    let he = c .before in
-    let fi = he .before in
-    let st = start (fi .before) in
-    insert-full (st .args .a .now) (st .args .work) (st .args .entry) _ _ (known (fi .before)) (omega (arith, fi .if4 .left)) _ (he .held-now .ensures) (omega (arith, c .if5 .taken))
+    let fi = c .before in
+    let so = fi .before in
+    let st = start so in
+    insert-full (st .args .a .now) (st .args .work) (st .args .entry) _ _ (known so) (omega (arith, fi .if4 .left)) _ (so .before .weighed .ensures) (omega (arith, c .if5 .taken))
 
 returns-6 : tie.Need-returns-6
 returns-6 c =
-    let he = c .before in
-    let fi = he .before in
-    let st = start (fi .before) in
-    insert-done (st .args .a .now) (st .args .work) (st .args .entry) _ _ (known (fi .before)) (omega (arith, fi .if4 .left)) _ (he .held-now .ensures) (omega (arith, c .if5 .left))
+    let fi = c .before in
+    let so = fi .before in
+    let st = start so in
+    insert-done (st .args .a .now) (st .args .work) (st .args .entry) _ _ (known so) (omega (arith, fi .if4 .left)) _ (so .before .weighed .ensures) (omega (arith, c .if5 .left))
 
 pub checked-for-insert-spec : {M : Type 1} → statement M
 checked-for-insert-spec =
@@ -123,9 +118,8 @@ checked-for-insert-spec =
     at-requires
     most-requires
     returns-2
-    book-sound-requires
+    weighed-requires
     returns-3
     returns-4
-    held-now-requires
     returns-5
     returns-6)

@@ -1,11 +1,8 @@
 -- `held` gives the count, or the first failing check.
-use mathlib.Core.Path.{_≡_, sym, _∙_}
-use native.Mathlib.Omega.{arith}
-use Rattle.rules.specs.Answers.{numberOf}
+use mathlib.Core.Path.{sym, _∙_}
 use Rattle.rules.specs.Calls.{heldCall}
 use Rattle.buffers.specs.Format.{lentOf}
-use Rattle.queue.proofs.CheckLaws.{held-all}
-use Rattle.queue.proofs.CallLaws.{told, held-refused, some-words, held-inside, held-called}
+use Rattle.queue.proofs.CallLaws.{told, held-refused, held-called}
 use borrow.Author.Needs.{needs}
 use Rattle.queue.proofs.held.Statement.{statement}
 use Rattle.queue.proofs.held.Tie as tie
@@ -26,32 +23,15 @@ returns c =
     let x = no .before .checked in
     let ws = no .before .before .before .args .a .now in
     let e = c .refusal .ensures in
-    told ws ws (heldCall (lentOf ws)) (x .result) _ _ _ _ (e .0) (e .1 .0) (e .1 .1 .0) (e .1 .1 .1) (held-refused ws (x .result) (x .ensures) (λ e. el .if1 .taken (no .number-of .ensures ∙ e)))
-
--- where no check fails
-none : (c : tie.Else1) → numberOf (c .before .before .checked .result) ≡ 0
-none c = sym (c .before .number-of .ensures) ∙ c .if1 .left
-
-links-requires : tie.Need-links-requires
-links-requires c κs =
-    let el = c in
-    let x = el .before .before in
-    let ws = x .before .before .args .a .now in
-    some-words ws (x .checked .result) (x .checked .ensures) (none el)
-
-held-now-requires : tie.Need-held-now-requires
-held-now-requires c κs =
-    let el = c .before in
-    let x = el .before .before in
-    let ws = x .before .before .args .a .now in
-    (held-inside ws (x .checked .result) (x .checked .ensures) (none el), omega (arith, c .links .ensures))
+    told ws ws (heldCall (lentOf ws)) (x .result .answer) _ _ _ _ (e .0) (e .1 .0) (e .1 .1 .0) (e .1 .1 .1) (held-refused ws (x .result .answer) (x .ensures .0) (λ e. el .if1 .taken (no .number-of .ensures ∙ e)))
 
 returns-2 : tie.Need-returns-2
 returns-2 c =
-    let el = c .before .before in
-    let x = el .before .before in
-    let ws = x .before .before .args .a .now in
-    held-called ws (x .checked .result) (x .checked .ensures) (none el) _ (held-all ws _ _ (c .before .links .ensures) (c .held-now .ensures))
+    let no = c .before in
+    let x = no .before .checked in
+    let ws = no .before .before .before .args .a .now in
+    let none = sym (no .number-of .ensures) ∙ c .if1 .left in
+    held-called ws (x .result .answer) (x .ensures .0) none _ (x .ensures .1 none)
 
 pub held-spec : {M : Type 1} → statement M
 held-spec =
@@ -61,6 +41,4 @@ held-spec =
     number-of-requires
     refusal-requires
     returns
-    links-requires
-    held-now-requires
     returns-2)
