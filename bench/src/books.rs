@@ -1,7 +1,7 @@
 //! The book: what the next insert will do, and the book test on chosen and random sound books.
 
 use crate::library::{gorgalhut_book_sound, gorgalhut_held, gorgalhut_setup, memory};
-use crate::rng::Rng;
+use reference::rng::Rng;
 
 /// k, s and the capacities of A and B, of the inner buffers of each level, of each link.
 struct Link {

@@ -1,27 +1,8 @@
-//! The library's functions by their C names. A slice is a pointer and a length in words; the result is the answer's number.
+//! The library that is counted, and memory to lend it.
 
-extern "C" {
-    pub fn gorgalhut_book_sound(array: *const u64, words: usize) -> bool;
-    pub fn gorgalhut_setup(
-        array: *mut u64,
-        words: usize,
-        links: u64,
-        word: *mut u64,
-        steps: *mut u64,
-    ) -> u8;
-    pub fn gorgalhut_insert(
-        array: *mut u64,
-        words: usize,
-        work: *mut u64,
-        work_words: usize,
-        entry: u64,
-        word: *mut u64,
-        steps: *mut u64,
-        packed: *mut bool,
-    ) -> u8;
-    pub fn gorgalhut_take(array: *mut u64, words: usize, word: *mut u64, steps: *mut u64) -> u8;
-    pub fn gorgalhut_held(array: *const u64, words: usize, word: *mut u64, steps: *mut u64) -> u8;
-}
+pub use gorgalhut::c::{
+    gorgalhut_book_sound, gorgalhut_held, gorgalhut_insert, gorgalhut_setup, gorgalhut_take,
+};
 
 /// Words of the lent array and of the work area, for one to four links.
 const SIZES: [(usize, usize); 4] = [(296, 16), (536, 96), (2_628, 960), (28_436, 17_280)];

@@ -6,7 +6,6 @@ mod books;
 mod library;
 mod options;
 mod queues;
-mod rng;
 mod workloads;
 
 use options::{read_options, Kind, Options, Task};

@@ -1,7 +1,7 @@
 //! The workloads, the same for every queue. Entries are made one by one as they are needed: none is read from memory.
 
 use crate::queues::Queue;
-use crate::rng::Rng;
+use reference::rng::Rng;
 
 /// Ticks of a day, 0.1 ms each.
 const DAY: u64 = 864_000_000;

@@ -19,7 +19,8 @@
 //! ```
 
 mod answers;
-mod c;
+#[doc(hidden)]
+pub mod c;
 mod entries;
 mod frames;
 mod queue;
