@@ -33,10 +33,10 @@ use Rattle.buffers.proofs.SlotLaws.{some}
 use Rattle.buffers.proofs.RuleLaws.{sound-rules}
 use Rattle.buffers.proofs.Exact.{sound-inside, count-is, mark-is}
 use Rattle.mergers.specs.Fills.{MarksRight, Did}
-use Rattle.queue.specs.Heads.{CanTake, Took, oneIf, headIn}
+use Rattle.takes.specs.Heads.{CanTake, Took, oneIf, headIn}
 use Rattle.queue.specs.Calls.{Called}
 use Rattle.queue.proofs.CheckLaws.{done, not-done, unlike, Holding, early, each-holds, late, shortest, long-says}
-use Rattle.queue.proofs.HandLaws.{taken-is, word-of-I}
+use Rattle.takes.proofs.HandLaws.{taken-is, word-of-I}
 use Rattle.queue.proofs.BookLaws.{describes, shaped, marks-right, sound-after}
 
 -- ---- answers

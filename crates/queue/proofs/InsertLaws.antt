@@ -5,8 +5,7 @@ use mathlib.Core.Logic.{_≢_}
 use mathlib.Core.Bool.{Bool, true, false}
 use mathlib.Core.List.{List, []}
 use native.Mathlib.Omega.{arith}
-use borrow.Author.Tests.{le-leb, lt-leb, eq-eqb, ne-eqb}
-use lib.Dec.{T, T-not, leb, eqb}
+use lib.Dec.{T, T-not}
 use lib.ListN.{length, set}
 use lib.Seq.{getD-set-other}
 use Rattle.rules.specs.declared.Answer.{Answer}
@@ -15,7 +14,6 @@ use Rattle.rules.specs.Answers.{numberOf, isDone}
 use Rattle.rules.specs.Entries.{wholeWord}
 use Rattle.rules.specs.Links.{k, numberOfS, bufferCount, words}
 use Rattle.rules.specs.Tree.{linksFrom, treeOf}
-use Rattle.rules.specs.Take.{insertion}
 use Rattle.rules.specs.Queue.{Queue, keyOf, counter, held}
 use Rattle.rules.specs.Book.{sound}
 use Rattle.rules.specs.Insert.{placed, lowest, Inserted, swept, packed, entered, makeRoom, inserted}
@@ -32,110 +30,18 @@ use Rattle.rules.proofs.SweepKept.{swept-fits}
 use Rattle.rules.proofs.InsertLaws.{now-kept, inserted-kept}
 use Rattle.rules.proofs.Accepted.{MayInsert, insert-call-cases}
 use Rattle.buffers.specs.Format.{linksIn, counterIn, markIn, many, bookOf, lentOf, bufferOf, buffersOf}
-use Rattle.buffers.specs.Slots.{capacityOf}
 use Rattle.buffers.specs.Post.{Inside, Has, Now, Kept, Word}
 use Rattle.buffers.proofs.ArrayLaws.{has, each-at, buffer-length, buffers-at, only-word, only-kept, kept-links}
 use Rattle.mergers.proofs.FillLaws.{marks-less}
 use Rattle.paths.specs.Placing.{Placing}
 use Rattle.paths.proofs.SlotsLaws.{placing}
-use Rattle.queue.specs.Heads.{CanTake}
-use Rattle.queue.specs.Calls.{Called}
-use Rattle.queue.specs.Room.{CanMove, CanSweep, CanPack, CanMakeRoom, MadeRoom, WorkKept}
-use Rattle.queue.proofs.ReadyLaws.{insertion-has, insertion-is}
+use Rattle.takes.specs.Heads.{CanTake}
+use Rattle.queue.specs.Calls.{Called, WorkKept}
+use Rattle.sweeps.specs.Room.{CanMove, CanSweep, CanMakeRoom, MadeRoom}
+use Rattle.takes.proofs.ReadyLaws.{insertion-has, insertion-is}
 use Rattle.queue.proofs.BookLaws.{shaped, sound-after}
 use Rattle.queue.proofs.CheckLaws.{done, not-done}
 use Rattle.queue.proofs.CallLaws.{done-is, accepted-is, refusal-called, accepted-called, inside, can-take, kept-now, same-queue}
-
--- ---- the three cases of making room
-
-abbrev nothing-made : Queue → Inserted
-nothing-made q = record { queue = q; steps = 0; packed = false; fits = true }
-
-abbrev goal : Queue → ℕ
-goal q = lowest 1 (q .counters)
-
-room-when : (q : Queue) (a b : Bool) → eqb (length (insertion (q .buffers))) 8 ≡ a → leb (goal q) (q .links) ≡ b
-    → makeRoom q ≡ elim a [ false ↦ nothing-made q | true ↦ elim b [ true ↦ swept (goal q) q | false ↦ packed q ] ]
-unfolding makeRoom
-room-when q a b e f = λ x. elim (e x) [ false ↦ nothing-made q | true ↦ elim (f x) [ true ↦ swept (goal q) q | false ↦ packed q ] ]
-
-room-none : (q : Queue) → length (insertion (q .buffers)) ≢ 8 → makeRoom q ≡ nothing-made q
-room-none q differ = room-when q false (leb (goal q) (q .links)) (ne-eqb (length (insertion (q .buffers))) 8 differ) refl
-
-room-swept : (q : Queue) → length (insertion (q .buffers)) ≡ 8 → goal q ≤ q .links → makeRoom q ≡ swept (goal q) q
-room-swept q eight there = room-when q true true (eq-eqb (length (insertion (q .buffers))) 8 eight) (le-leb (goal q) (q .links) there)
-
-room-packed : (q : Queue) → length (insertion (q .buffers)) ≡ 8 → q .links < goal q → makeRoom q ≡ packed q
-room-packed q eight past = room-when q true false (eq-eqb (length (insertion (q .buffers))) 8 eight) (lt-leb (goal q) (q .links) past)
-
--- ---- room over the array
-
-module _ (ws work : List ℕ) (h : CanMakeRoom ws work) where
-  abbrev q : Queue
-  q = queueOf (lentOf ws)
-
-  array : Inside ws
-  array = h .moves .can .array
-
-  I-has : Has ws 0
-  I-has = insertion-has ws (linksIn ws) (h .moves .can)
-
-  pub counts-I : Has ws 0
-  counts-I = I-has
-
-  I-long : length (insertion (q .buffers)) ≡ length (bufferOf ws 0)
-  unfolding queueOf lentOf
-  I-long = ap length (insertion-is ws (linksIn ws) (h .moves .can))
-
-  pub some-words : 0 < length ws
-  some-words = omega (arith, I-has .slots, I-has .behind)
-
-  pub room-there : (n : ℕ) → n ≡ length (bufferOf ws 0) → n < 8 → MadeRoom ws ws (makeRoom q) work work 0
-  room-there n n-is less =
-      rw (room-none q (omega (arith, I-long)))
-      record {
-        array = array;
-        links = refl;
-        queue-is = refl;
-        made = refl;
-        marks = h .moves .can .marks;
-        mark-I = h .mark-I;
-        long = refl;
-        past = λ p far. refl;
-        work-long = refl;
-        work-past = λ p far. refl;
-      }
-
-  pub packed-not : (n : ℕ) → n ≡ length (bufferOf ws 0) → n < 8 → false ≡ makeRoom q .packed
-  packed-not n n-is less = rw (room-none q (omega (arith, I-long)))
-
-  I-full : (n : ℕ) → n ≡ length (bufferOf ws 0) → 8 ≤ n → length (insertion (q .buffers)) ≡ 8
-  unfolding capacityOf
-  I-full n n-is eight = omega (arith, I-long, buffer-length ws 0 I-has, I-has .fits)
-
-  module _ (n : ℕ) (n-is : n ≡ length (bufferOf ws 0)) (eight : 8 ≤ n) (l : ℕ) (l-is : l ≡ linksIn ws) (i : ℕ) (i-is : i ≡ lowest 1 (bookOf ws .counters)) where
-    pub can-sweep : i ≤ l → CanSweep ws i work
-    can-sweep there = rw i-is (h .sweeps (omega (arith, i-is, l-is)))
-
-    pub swept-room : i ≤ l → (ws′ work′ : List ℕ) (steps : ℕ) → MadeRoom ws ws′ (swept i q) work work′ steps → MadeRoom ws ws′ (makeRoom q) work work′ steps
-    unfolding queueOf lentOf
-    swept-room there ws′ work′ steps z =
-        subst (λ y. MadeRoom ws ws′ y work work′ steps) (ap (λ m. swept m q) i-is ∙ sym (room-swept q (I-full n n-is eight) (omega (arith, i-is, l-is)))) z
-
-    pub swept-packs-not : i ≤ l → false ≡ makeRoom q .packed
-    unfolding queueOf lentOf swept
-    swept-packs-not there = sym (ap (λ (y : Inserted). y .packed) (room-swept q (I-full n n-is eight) (omega (arith, i-is, l-is))))
-
-    pub can-pack : CanPack ws l work
-    can-pack = record { moves = h .moves; of = sym l-is }
-
-    pub packed-room : l < i → (ws′ work′ : List ℕ) (steps : ℕ) → MadeRoom ws ws′ (packed q) work work′ steps → MadeRoom ws ws′ (makeRoom q) work work′ steps
-    unfolding queueOf lentOf
-    packed-room past ws′ work′ steps z = subst (λ y. MadeRoom ws ws′ y work work′ steps) (sym (room-packed q (I-full n n-is eight) (omega (arith, i-is, l-is)))) z
-
-    pub packed-packs : l < i → true ≡ makeRoom q .packed
-    unfolding queueOf lentOf packed
-    packed-packs past = sym (ap (λ (y : Inserted). y .packed) (room-packed q (I-full n n-is eight) (omega (arith, i-is, l-is))))
 
 -- ---- where the book rules hold but for I, a sweep may be made to the lowest link
 

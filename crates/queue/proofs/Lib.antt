@@ -1,14 +1,7 @@
-pub mod ReadyLaws
-pub mod HandLaws
 pub mod CheckLaws
 pub mod BookLaws
 pub mod CallLaws
 pub mod SetupLaws
 pub mod AgreeLaws
-pub mod EmptyLaws
-pub mod MarkLaws
-pub mod SweepLaws
-pub mod PackLaws
-pub mod LowestLaws
 pub mod InsertCheckLaws
 pub mod InsertLaws

@@ -11,20 +11,19 @@ use Rattle.rules.specs.declared.Answer.{Answer}
 use Rattle.rules.specs.declared.Answer.the-variants.{Done, NoSuchLinks, ArrayShort}
 use Rattle.rules.specs.Answers.{isDone}
 use Rattle.rules.specs.Links.{from, bufferCount, bookWords, words, mostLinks, LinkNumber}
-use Rattle.rules.specs.Tree.{Tree, exhausted, buffer, merger, treeOf}
+use Rattle.rules.specs.Tree.{treeOf}
 use Rattle.rules.specs.Queue.{fresh}
 use Rattle.rules.specs.Book.{isLinkNumber, sound}
 use Rattle.rules.specs.Calls.{Outcome, Check, _else_, firstFailing, queueOf, setup}
-use Rattle.rules.proofs.Numbers.{Stands, itself, output, in-first, in-second}
 use Rattle.rules.proofs.Numbering.{tree-range}
 use Rattle.rules.proofs.BookLaws as rules
 use Rattle.rules.proofs.BookKept.{fresh-kept}
-use Rattle.buffers.specs.Format.{linksIn, countIn, markIn, markOf, wordOf, counterIn, many, bookOf, lentOf, bufferOf, buffersOf, headOf}
+use Rattle.buffers.specs.Format.{linksIn, countIn, markIn, wordOf, counterIn, many, bookOf, lentOf, bufferOf, buffersOf, headOf}
 use Rattle.buffers.specs.Post.{Inside}
 use Rattle.buffers.proofs.SlotLaws.{words-end, behind-book, few, some}
 use Rattle.buffers.specs.Fresh.{CanBegin, Begun}
-use Rattle.mergers.specs.Fills.{MarksRight}
 use Rattle.queue.specs.Calls.{Called, SlotsKept}
+use Rattle.sweeps.proofs.MarkLaws.{unmarked}
 use Rattle.queue.proofs.BookLaws.{sound-after}
 use Rattle.queue.proofs.CallLaws.{refusal-called, accepted-called, accepted-is, done-is}
 
@@ -32,12 +31,6 @@ each-one : {A : Type 0} (f : ℕ → A) (x : A) (i n : ℕ) → ((m : ℕ) → i
 unfolding from
 each-one f x i zero same = refl
 each-one f x i (suc n) same = λ p. same i (omega arith) (omega arith) p ∷ each-one f x (suc i) n (λ m low high. same m (omega arith) (omega arith)) p
-
--- where no mark stands, all are right
-pub unmarked : (ws : List ℕ) (t : Tree) → ((m : ℕ) → Stands m t → markOf ws m ≡ 0) → MarksRight ws t
-unmarked ws exhausted h = tt
-unmarked ws (buffer n c) h = λ e. absurd (omega (arith, h n itself))
-unmarked ws (merger n c one two) h = (λ e. absurd (omega (arith, h n output)), unmarked ws one (λ m s. h m (in-first s)), unmarked ws two (λ m s. h m (in-second s)))
 
 module _ (ws ws′ : List ℕ) (links : ℕ) (can : CanBegin ws links) (b : Begun ws ws′ links) where
   word-zero : (n : ℕ) → n < many ws′ → wordOf ws′ n ≡ 0

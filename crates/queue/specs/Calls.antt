@@ -4,7 +4,7 @@ use mathlib.Core.Bool.{Bool, true, false}
 use mathlib.Core.List.{List}
 use Prim.Native.Nat.{ℕ, _≤_}
 use lib.ListN.{length, getD}
-use Rattle.rules.specs.Links.{bookWords, words}
+use Rattle.rules.specs.Links.{bookWords, words, most}
 use Rattle.rules.specs.declared.Answer.{Answer}
 use Rattle.rules.specs.Answers.{isDone}
 use Rattle.rules.specs.Book.{sound}
@@ -26,3 +26,9 @@ pub record Called (ws ws′ : List ℕ) (o : rules.Outcome) (answer : Answer) (w
 -- "slots keep their words": every word behind the book is as it was
 abbrev pub SlotsKept : List ℕ → List ℕ → Type 0
 SlotsKept ws ws′ = (p : ℕ) → bookWords ≤ p → getD ws′ p 0 ≡ getD ws p 0
+
+-- "Words of the work area past H are never touched", and a refusal changes none
+pub record WorkKept (links : ℕ) (answer : Answer) (work work′ : List ℕ) : Type 0 where
+  pub long : length work′ ≡ length work
+  pub past : (p : ℕ) → most links ≤ p → getD work′ p 0 ≡ getD work p 0
+  pub refused : isDone answer ≡ false → work′ ≡ work

@@ -3,8 +3,8 @@ use mathlib.Core.Path.{_≡_, sym, _∙_}
 use Rattle.rules.specs.Answers.{numberOf}
 use Rattle.rules.specs.Calls.{look}
 use Rattle.buffers.specs.Format.{lentOf}
-use Rattle.queue.specs.Heads.{CanTake}
-use Rattle.queue.proofs.HandLaws.{can-now}
+use Rattle.takes.specs.Heads.{CanTake}
+use Rattle.takes.proofs.HandLaws.{can-now}
 use Rattle.queue.proofs.CallLaws.{told, look-refused, take-some-words, may-can, look-called}
 use borrow.Author.Needs.{needs}
 use Rattle.queue.proofs.look.Statement.{statement}

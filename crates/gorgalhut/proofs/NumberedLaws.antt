@@ -1,0 +1,87 @@
+-- Calls and answers by their numbers.
+use mathlib.Core.Path.{_≡_, refl}
+use mathlib.Core.Bool.{Bool, true, false}
+use Prim.Native.Nat.{ℕ, _≤_, _<_}
+use native.Mathlib.Omega.{arith}
+use borrow.Author.Tests.{le-leb, lt-leb}
+use Rattle.rules.specs.declared.Answer.{Answer}
+use Rattle.rules.specs.declared.Answer.the-variants.{Done, NoSuchLinks, ArrayShort, WorkShort, BookBroken, Full, NoneHeld, DoorAbove, NoPlace, OrderBroken, NotAFrame}
+use Rattle.rules.specs.Answers.{numberOf}
+use Rattle.tally.specs.declared.Call.{Call}
+use Rattle.tally.specs.declared.Call.the-variants.{Setup, Insert, Take, Look, Held, Audit}
+use Rattle.tally.specs.declared.Outcome.{Outcome}
+use Rattle.tally.specs.declared.Tally.{Tally}
+use Rattle.tally.specs.Day.{upToDate}
+use Rattle.gorgalhut.specs.Numbered.{callOf, callNumber, answerOf, named, tallied}
+
+pub call-again : (c : Call) → callOf (callNumber c) ≡ c
+unfolding callOf
+call-again Setup = refl
+call-again Insert = refl
+call-again Take = refl
+call-again Look = refl
+call-again Held = refl
+call-again Audit = refl
+
+pub answer-again : (a : Answer) → answerOf (numberOf a) ≡ a
+unfolding answerOf
+answer-again Done = refl
+answer-again NoSuchLinks = refl
+answer-again ArrayShort = refl
+answer-again WorkShort = refl
+answer-again BookBroken = refl
+answer-again Full = refl
+answer-again NoneHeld = refl
+answer-again DoorAbove = refl
+answer-again NoPlace = refl
+answer-again OrderBroken = refl
+answer-again NotAFrame = refl
+
+call-few : (c : Call) → callNumber c ≤ 5
+call-few Setup = omega arith
+call-few Insert = omega arith
+call-few Take = omega arith
+call-few Look = omega arith
+call-few Held = omega arith
+call-few Audit = omega arith
+
+answer-few : (a : Answer) → numberOf a ≤ 10
+answer-few Done = omega arith
+answer-few NoSuchLinks = omega arith
+answer-few ArrayShort = omega arith
+answer-few WorkShort = omega arith
+answer-few BookBroken = omega arith
+answer-few Full = omega arith
+answer-few NoneHeld = omega arith
+answer-few DoorAbove = omega arith
+answer-few NoPlace = omega arith
+answer-few OrderBroken = omega arith
+answer-few NotAFrame = omega arith
+
+module _ (call answer : ℕ) where
+  pub both-named : call ≤ 5 → answer ≤ 10 → named call answer ≡ true
+  both-named p q = rw (le-leb call 5 p, le-leb answer 10 q) refl
+
+  pub no-call : 5 < call → named call answer ≡ false
+  no-call p = rw (lt-leb call 5 p) refl
+
+  pub no-answer : call ≤ 5 → 10 < answer → named call answer ≡ false
+  no-answer p q = rw (le-leb call 5 p, lt-leb answer 10 q) refl
+
+module _ (tally : Tally) (call answer steps : ℕ) (packed : Bool) where
+  tallied-named : named call answer ≡ true → tallied tally call answer steps packed ≡ upToDate tally (callOf call) (record { answer = answerOf answer; steps = steps; packed = packed })
+  unfolding tallied
+  tallied-named e = rw e refl
+
+  pub tallied-none : named call answer ≡ false → tallied tally call answer steps packed ≡ tally
+  unfolding tallied
+  tallied-none e = rw e refl
+
+  pub tallied-added : (after : Tally) (c : Call) (a : Answer) → call ≤ 5 → answer ≤ 10 → c ≡ callOf call → a ≡ answerOf answer
+      → after ≡ upToDate tally c (record { answer = a; steps = steps; packed = packed }) → after ≡ tallied tally call answer steps packed
+  tallied-added after c a p q e f g = rw (tallied-named (both-named call answer p q), ← e, ← f) g
+
+-- every call with its outcome, told by its numbers, is added as the document says
+pub tallied-call : (tally : Tally) (c : Call) (o : Outcome) → tallied tally (callNumber c) (numberOf (o .answer)) (o .steps) (o .packed) ≡ upToDate tally c o
+unfolding tallied
+tallied-call tally c o = rw (both-named (callNumber c) (numberOf (o .answer)) (call-few c) (answer-few (o .answer)), call-again c, answer-again (o .answer)) refl

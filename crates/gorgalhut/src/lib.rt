@@ -1,0 +1,289 @@
+// The queue's functions, the tally and the frames under their C names, for C and Rust to link.
+ghost use mathlib.Core.Path.{_≡_};
+ghost use lib.Dec.{leb};
+ghost use lib.ListN.{length};
+ghost use Rattle.rules.specs.Tests.{_and_};
+ghost use Rattle.rules.specs.Book.{sound};
+ghost use Rattle.rules.specs.Calls as rules;
+ghost use Rattle.buffers.specs.Format.{linksIn, bookOf, lentOf};
+ghost use Rattle.queue.specs.Calls.{SlotsKept};
+ghost use lib.Dec.{ltb};
+ghost use Prim.Native.Nat.{_^_};
+ghost use Rattle.tally.specs.Day.{tallyOf};
+ghost use Rattle.frames.specs.Answers.{readBack};
+ghost use Rattle.frames.specs.Frames.{readOf};
+ghost use Rattle.frames.specs.AnswerLine.{answerLine};
+ghost use Rattle.gorgalhut.specs.Answered.{Answered, WorkLeft};
+ghost use Rattle.gorgalhut.specs.Numbered.{callOf, answerOf, named, tallied};
+ghost use Rattle.gorgalhut.specs.Framed.{asked, codeIn, bodyIn, mayIn, lineIn, Lined};
+
+// Whether the array has a book and the book keeps every book rule.
+#[no_mangle]
+pub extern "C" fn gorgalhut_book_sound(array: &[u64]) -> bool
+    ensures { λ r. ⌜ r ≡ (leb 256 (length (now (array .entry))) and sound (bookOf (now (array .entry)))) ⌝ }
+{
+    if array.len() < 256 {
+        return false;
+    }
+    buffers::sound::book_sound(array)
+}
+
+// Makes an empty queue of so many links.
+#[no_mangle]
+pub extern "C" fn gorgalhut_setup(
+    array: &mut [u64],
+    links: u64,
+    word: &mut u64,
+    steps: &mut u64,
+) -> u8
+    ensures { λ r. ⌜ Answered (now (array .entry)) (now (array .exit)) (rules.setup links (lentOf (now (array .entry)))) r (now (word .exit)) (now (steps .exit)) ⌝ }
+    ensures { λ r. ⌜ SlotsKept (now (array .entry)) (now (array .exit)) ⌝ }
+{
+    let made = queue::setup(array, links);
+    *word = made.word;
+    *steps = made.steps;
+    let answer = made.answer;
+    rules::number_of(answer)
+}
+
+// Puts an entry in, with a work area; `packed` says whether it packed.
+#[no_mangle]
+pub extern "C" fn gorgalhut_insert(
+    array: &mut [u64],
+    work: &mut [u64],
+    entry: u64,
+    word: &mut u64,
+    steps: &mut u64,
+    packed: &mut bool,
+) -> u8
+    ensures { λ r. ⌜ Answered (now (array .entry)) (now (array .exit)) (rules.insert (length (now (work .entry))) entry (lentOf (now (array .entry)))) r (now (word .exit)) (now (steps .exit)) ⌝ }
+    ensures { λ r. ⌜ now (packed .exit) ≡ rules.insert (length (now (work .entry))) entry (lentOf (now (array .entry))) .packed ⌝ }
+    ensures { λ r. ⌜ WorkLeft (linksIn (now (array .entry))) r (now (work .entry)) (now (work .exit)) ⌝ }
+{
+    let put = queue::insert(array, work, entry);
+    *word = put.word;
+    *steps = put.steps;
+    *packed = put.packed;
+    let answer = put.answer;
+    rules::number_of(answer)
+}
+
+// Takes the smallest entry held; `word` is the entry.
+#[no_mangle]
+pub extern "C" fn gorgalhut_take(array: &mut [u64], word: &mut u64, steps: &mut u64) -> u8
+    ensures { λ r. ⌜ Answered (now (array .entry)) (now (array .exit)) (rules.take (lentOf (now (array .entry)))) r (now (word .exit)) (now (steps .exit)) ⌝ }
+{
+    let taken = queue::take(array);
+    *word = taken.word;
+    *steps = taken.steps;
+    let answer = taken.answer;
+    rules::number_of(answer)
+}
+
+// Looks at the smallest entry held; `word` is the entry.
+#[no_mangle]
+pub extern "C" fn gorgalhut_look(array: &mut [u64], word: &mut u64, steps: &mut u64) -> u8
+    ensures { λ r. ⌜ Answered (now (array .entry)) (now (array .exit)) (rules.look (lentOf (now (array .entry)))) r (now (word .exit)) (now (steps .exit)) ⌝ }
+{
+    let seen = queue::look(array);
+    *word = seen.word;
+    *steps = seen.steps;
+    let answer = seen.answer;
+    rules::number_of(answer)
+}
+
+// Says how many entries are held; `word` is their number.
+#[no_mangle]
+pub extern "C" fn gorgalhut_held(array: &[u64], word: &mut u64, steps: &mut u64) -> u8
+    ensures { λ r. ⌜ Answered (now (array .entry)) (now (array .entry)) (rules.heldCall (lentOf (now (array .entry)))) r (now (word .exit)) (now (steps .exit)) ⌝ }
+{
+    let counted = queue::held(array);
+    *word = counted.word;
+    *steps = counted.steps;
+    let answer = counted.answer;
+    rules::number_of(answer)
+}
+
+// Says whether every entry stands in order.
+#[no_mangle]
+pub extern "C" fn gorgalhut_audit(array: &[u64], word: &mut u64, steps: &mut u64) -> u8
+    ensures { λ r. ⌜ Answered (now (array .entry)) (now (array .entry)) (rules.audit (lentOf (now (array .entry)))) r (now (word .exit)) (now (steps .exit)) ⌝ }
+{
+    let audited = queue::audit(array);
+    *word = audited.word;
+    *steps = audited.steps;
+    let answer = audited.answer;
+    rules::number_of(answer)
+}
+
+// The call of a number, which is its code in a frame.
+fn call_of(number: u8) -> tally::Call
+    ensures { λ r. ⌜ r ≡ callOf number ⌝ }
+{
+    match number {
+        0 => tally::Call::Setup,
+        1 => tally::Call::Insert,
+        2 => tally::Call::Take,
+        3 => tally::Call::Look,
+        4 => tally::Call::Held,
+        _ => tally::Call::Audit,
+    }
+}
+
+fn answer_of(number: u8) -> rules::Answer
+    ensures { λ r. ⌜ r ≡ answerOf number ⌝ }
+{
+    match number {
+        0 => rules::Answer::Done,
+        1 => rules::Answer::NoSuchLinks,
+        2 => rules::Answer::ArrayShort,
+        3 => rules::Answer::WorkShort,
+        4 => rules::Answer::BookBroken,
+        5 => rules::Answer::Full,
+        6 => rules::Answer::NoneHeld,
+        7 => rules::Answer::DoorAbove,
+        8 => rules::Answer::NoPlace,
+        9 => rules::Answer::OrderBroken,
+        _ => rules::Answer::NotAFrame,
+    }
+}
+
+// Adds a call to the day's tally; says no, and adds nothing, where a number names no call or no answer.
+#[no_mangle]
+pub extern "C" fn gorgalhut_tally_add(
+    inserts: &mut u64,
+    takes: &mut u64,
+    steps: &mut u64,
+    packings: &mut u64,
+    call: u8,
+    answer: u8,
+    made: u64,
+    packed: bool,
+) -> bool
+    ensures { λ r. ⌜ r ≡ named call answer ⌝ }
+    ensures { λ r. ⌜ tallyOf (now (inserts .exit)) (now (takes .exit)) (now (steps .exit)) (now (packings .exit)) ≡ tallied (tallyOf (now (inserts .entry)) (now (takes .entry)) (now (steps .entry)) (now (packings .entry))) call answer made packed ⌝ }
+{
+    if call <= 5 {
+        if answer <= 10 {
+            let before = tally::Tally {
+                inserts: *inserts,
+                takes: *takes,
+                steps: *steps,
+                packings: *packings,
+            };
+            let outcome = tally::Outcome {
+                answer: answer_of(answer),
+                steps: made,
+                packed,
+            };
+            let after = tally::updated(before, call_of(call), outcome);
+            *inserts = after.inserts;
+            *takes = after.takes;
+            *steps = after.steps;
+            *packings = after.packings;
+            return true;
+        }
+    }
+    false
+}
+
+// "frame reader: not a frame; frame writer: as said under Frames"
+const NOT_A_FRAME: u8 = 10;
+
+// Reads a line without its 0A: the order's code and the number in its body.
+#[no_mangle]
+pub extern "C" fn gorgalhut_read_frame(line: &[u8], kind: &mut u8, value: &mut u64) -> u8
+    ensures { λ r. ⌜ r ≡ readOf (now (line .entry)) .number ⌝ }
+    ensures { λ r. ⌜ now (kind .exit) ≡ codeIn (readOf (now (line .entry)) .values) ⌝ }
+    ensures { λ r. ⌜ now (value .exit) ≡ bodyIn (readOf (now (line .entry)) .values) ⌝ }
+{
+    match frames::read(line) {
+        frames::ReadFrame::Order(order) => {
+            *kind = frames::code_of(order) as u8;
+            *value = frames::body_of(order);
+            0
+        }
+        frames::ReadFrame::NotAFrame => {
+            *kind = 0;
+            *value = 0;
+            NOT_A_FRAME
+        }
+    }
+}
+
+// The order of a code and the number in its body, if the body has room for it.
+fn asked(kind: u8, value: u64) -> frames::ReadFrame
+    ensures { λ r. ⌜ readBack r ≡ asked kind value ⌝ }
+{
+    if kind == 1 {
+        return frames::ReadFrame::Order(frames::Order::Insert(frames::entry_of(value)));
+    }
+    if kind == 0 {
+        if value < 256 {
+            return frames::ReadFrame::Order(frames::Order::Setup(value as u8));
+        }
+        return frames::ReadFrame::NotAFrame;
+    }
+    if 0 < value {
+        return frames::ReadFrame::NotAFrame;
+    }
+    match kind {
+        2 => frames::ReadFrame::Order(frames::Order::Take),
+        3 => frames::ReadFrame::Order(frames::Order::Look),
+        4 => frames::ReadFrame::Order(frames::Order::Held),
+        5 => frames::ReadFrame::Order(frames::Order::Audit),
+        _ => frames::ReadFrame::NotAFrame,
+    }
+}
+
+// Writes an order's digits without 0A; `written` is how many.
+#[no_mangle]
+pub extern "C" fn gorgalhut_write_frame(
+    kind: u8,
+    value: u64,
+    out: &mut [u8],
+    written: &mut usize,
+) -> u8
+    ensures { λ r. ⌜ Lined (mayIn (asked kind value .values)) (lineIn (asked kind value .values)) (now (out .entry)) (now (out .exit)) r (now (written .exit)) ⌝ }
+{
+    match asked(kind, value) {
+        frames::ReadFrame::Order(order) => match frames::write(order, out) {
+            frames::Written::Bytes(n) => {
+                *written = n;
+                0
+            }
+            frames::Written::Refused => {
+                *written = 0;
+                NOT_A_FRAME
+            }
+        },
+        frames::ReadFrame::NotAFrame => {
+            *written = 0;
+            NOT_A_FRAME
+        }
+    }
+}
+
+// Writes the line that answers a call, with its 0A; `written` is how many bytes.
+#[no_mangle]
+pub extern "C" fn gorgalhut_answer_line(
+    answer: u8,
+    word: u64,
+    steps: u64,
+    out: &mut [u8],
+    written: &mut usize,
+) -> u8
+    ensures { λ r. ⌜ Lined (ltb steps (2 ^ 32)) (answerLine answer word steps) (now (out .entry)) (now (out .exit)) r (now (written .exit)) ⌝ }
+{
+    if steps < 4294967296 {
+        match frames::answer_line(answer, word, steps as u32, out) {
+            frames::Written::Bytes(n) => {
+                *written = n;
+                return 0;
+            }
+            frames::Written::Refused => {}
+        }
+    }
+    *written = 0;
+    NOT_A_FRAME
+}

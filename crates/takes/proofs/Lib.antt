@@ -1,0 +1,4 @@
+pub mod SumLaws
+pub mod ReadyLaws
+pub mod HandLaws
+pub mod EmptyLaws
