@@ -13,7 +13,7 @@
  *     own, so queues in different arrays never touch.
  * The book's words in the array are the library's to write; docs/BOOK.md says what stands in them.
  *
- * C99 and C++. Link with target/staticlib/liblibrary.a, which `rt staticlib library` makes.
+ * C99 and C++. Link with libgorgalhut.a: `tools/install` lays it and this header where pkg-config finds them.
  */
 #ifndef GORGALHUT_H
 #define GORGALHUT_H
@@ -21,6 +21,12 @@
 #include <stdbool.h>
 #include <stddef.h>
 #include <stdint.h>
+
+/* The version of header and library; CHANGELOG.md says what each changed. */
+#define GORGALHUT_VERSION "0.2.0"
+#define GORGALHUT_VERSION_MAJOR 0
+#define GORGALHUT_VERSION_MINOR 2
+#define GORGALHUT_VERSION_PATCH 0
 
 #ifdef __cplusplus
 extern "C" {

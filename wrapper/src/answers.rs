@@ -1,7 +1,7 @@
 //! The numbers that come back.
 
-use std::error::Error;
-use std::fmt::{self, Display, Formatter};
+use core::error::Error;
+use core::fmt::{self, Display, Formatter};
 
 /// Why nothing was done. A refusal changes nothing that was lent.
 #[derive(Clone, Copy, Debug, PartialEq, Eq, Hash)]
@@ -29,7 +29,7 @@ pub enum Refusal {
 }
 
 /// What a call comes to.
-pub type Result<T> = std::result::Result<T, Refusal>;
+pub type Result<T> = core::result::Result<T, Refusal>;
 
 const ALL: [Refusal; 10] = [
     Refusal::NoSuchLinks,

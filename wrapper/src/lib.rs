@@ -2,6 +2,7 @@
 //!
 //! [`Queue`] borrows an array and a work area, so neither can overlap the other or be used by anybody else while the
 //! queue stands. Every refusal is a [`Refusal`] with the number that the documents give it, and changes nothing.
+//! Nothing here needs `std` or an allocator.
 //!
 //! ```
 //! use gorgalhut::{Command, Door, Entry, Links, Queue};
@@ -17,6 +18,8 @@
 //! assert_eq!(queue.held()?, 1);
 //! # Ok::<(), gorgalhut::Refusal>(())
 //! ```
+
+#![no_std]
 
 mod answers;
 #[doc(hidden)]
