@@ -32,7 +32,7 @@ use Rattle.demands.proofs.SmallestLaws as smallest
 use Rattle.demands.proofs.SmallestLaws.{before, no-setup}
 use Rattle.demands.proofs.SequenceLaws.{from-setup, since-same, links-same}
 use Rattle.demands.proofs.AnswerLaws as answers
-use Rattle.demands.proofs.MadeLaws.{Nothing, refused-nothing, made-agree}
+use Rattle.demands.proofs.MadeLaws.{Nothing, area-inside, refused-nothing, made-agree}
 use Rattle.demands.proofs.DigitLaws.{eight-digits}
 use Rattle.demands.proofs.TallyLaws.{history-made, since-made, tallied, tally-sums}
 use Rattle.demands.proofs.FrameLaws.{Reads, Writes, read-back, write-back}
@@ -42,7 +42,11 @@ use Rattle.demands.proofs.FrameLaws.{Reads, Writes, read-back, write-ba
 module _ (ws ws′ : List ℕ) (c : Call) (made : Made ws c ws′) where
   -- "every call .. stays inside the lent memory": "Words past the stated length are never touched."
   pub inside-the-lent : (length ws′ ≡ length ws) × ((p : ℕ) → words (linksIn ws′) ≤ p → getD ws′ p 0 ≡ getD ws p 0)
-  inside-the-lent = (made .long, made .past)
+  inside-the-lent = (made .called .long, made .called .past)
+
+  -- and of the work area none past H
+  pub inside-the-area : (length (made .left) ≡ length (made .area)) × ((p : ℕ) → most (linksIn ws) ≤ p → getD (made .left) p 0 ≡ getD (made .area) p 0)
+  inside-the-area = area-inside ws ws′ c made
 
   -- "each refusal exactly when the document says": the table of numbers is `Answers`
   pub each-answer-exactly : (r : Answer) → (c .answer ≡ r → Answers (c .work) (lentOf ws) (c .order) r) × (Answers (c .work) (lentOf ws) (c .order) r → c .answer ≡ r)
@@ -52,8 +56,8 @@ module _ (ws ws′ : List ℕ) (c : Call) (made : Made ws c ws′) where
   pub eight-never : c .answer ≡ NoPlace → ⊥
   eight-never = answers.never-eight ws ws′ c made
 
-  -- "a refusal changes nothing"
-  pub refusal-changes-nothing : accepted c ≡ false → Nothing ws ws′ c
+  -- "a refusal changes nothing", the work area included
+  pub refusal-changes-nothing : accepted c ≡ false → Nothing ws ws′ (made .area) (made .left) c
   refusal-changes-nothing = refused-nothing ws ws′ c made
 
 -- "two outcomes meeting it agree"
@@ -142,7 +146,7 @@ frame-written-again = write-back
 
 -- "the steps that each call reports are those of the rules"
 pub steps-of-the-rules : (ws ws′ : List ℕ) (c : Call) → Made ws c ws′ → c .steps ≡ call (c .work) (c .order) (lentOf ws) .steps
-steps-of-the-rules ws ws′ c made = made .steps-are
+steps-of-the-rules ws ws′ c made = made .called .steps-are
 
 -- "steps, 8": on any array they have at most eight hexadecimal digits
 pub steps-eight-digits : (ws ws′ : List ℕ) (c : Call) → Made ws c ws′ → c .steps < 16 ^ 8

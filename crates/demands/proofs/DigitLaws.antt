@@ -144,4 +144,4 @@ module _ (ws : List ℕ) where
 
   -- eight digits are enough
   pub eight-digits : (ws′ : List ℕ) (c : Call) → Made ws c ws′ → c .steps < 16 ^ 8
-  eight-digits ws′ c made = omega (arith, made .steps-are, few (c .work) (c .order))
+  eight-digits ws′ c made = omega (arith, made .called .steps-are, few (c .work) (c .order))

@@ -97,35 +97,35 @@ module _ {l p t : ℕ} {ins outs : List ℕ} (ws ws′ : List ℕ) (c : Call) (h
   After b = Stands l (ifDone b (brought (c .order)) ++ ins) (ifDone b (handed (c .order) (c .word)) ++ outs) (once (c .packed) + p) (c .steps + t) ws′
 
   done-too : (b : Bool) → accepted c ≡ b → isDone (o .answer) ≡ b
-  done-too b e = ap isDone (sym (made .answer-is)) ∙ e
+  done-too b e = ap isDone (sym (made .called .answer-is)) ∙ e
 
   refused-after : accepted c ≡ false → After false
   refused-after e =
       let plain = refusal-plain a (c .work) (c .order) (done-too false e) in
-      let no-packing : once (c .packed) ≡ 0 = ap once (made .packed-is ∙ plain .packed) in
-      let no-steps : c .steps ≡ 0 = made .steps-are ∙ plain .steps in
-      let same : ws′ ≡ ws = made .refused e in
+      let no-packing : once (c .packed) ≡ 0 = ap once (made .called .packed-is ∙ plain .packed) in
+      let no-steps : c .steps ≡ 0 = made .called .steps-are ∙ plain .steps in
+      let same : ws′ ≡ ws = made .called .refused e in
       subst (λ ws. Stands l ins outs (once (c .packed) + p) (c .steps + t) ws) (sym same)
       (record { number = h .number; long = h .long; holds = h .holds; goes = carried refl (omega arith) (omega arith) refl (h .goes); keeps = h .keeps })
 
   done-after : isSetup (c .order) ≡ false → accepted c ≡ true → After true
   done-after other e =
-      let q = made .queue-is e in
+      let q = made .called .queue-is e in
       let fine = since-fine l (h .number) (h .goes) in
       let d = done-too true e in
       record {
         number = h .number;
-        long = rw (made .long) (h .long);
-        holds = made .sound-is e;
+        long = rw (made .called .long) (h .long);
+        holds = made .called .sound-is e;
         goes =
             carried (counted (c .order) o ins ∙ ap (λ b. length (ifDone b (brought (c .order)) ++ ins)) d)
-            (omega (arith, ap oneIf (sym (made .packed-is)), once-is (c .packed)))
-            (omega (arith, made .steps-are)) (sym q) (goes-on a (h .goes) (c .work) (c .order) (same-setup (c .order) other));
+            (omega (arith, ap oneIf (sym (made .called .packed-is)), once-is (c .packed)))
+            (omega (arith, made .called .steps-are)) (sym q) (goes-on a (h .goes) (c .work) (c .order) (same-setup (c .order) other));
         keeps = λ g.
             omega (
               arith,
               ap (weightOf g) q,
-              ap (λ w. sumOf g (handed (c .order) w)) (made .word-is),
+              ap (λ w. sumOf g (handed (c .order) w)) (made .called .word-is),
               moves a fine (c .work) (c .order) other (subst T (sym d) tt) g,
               sumOf-append g (handed (c .order) (c .word)) outs,
               sumOf-append g (brought (c .order)) ins,
@@ -152,9 +152,9 @@ Now c cs ws b =
 
 -- at any time in a history
 pub stands : {cs : List Call} {ws : List ℕ} → History cs ws → Stands (links cs) (putIn (since cs)) (takenOut (since cs)) (packings (since cs)) (steps (since cs)) ws
-stands (first ws ws′ c b made) = subst (Now c [] ws′) (sym b) (begun (c .order) (c .work) ws ws′ (c .answer) (c .word) (c .steps) (c .packed) b made)
+stands (first ws ws′ c b made) = subst (Now c [] ws′) (sym b) (begun (c .order) (c .work) ws ws′ (c .answer) (c .word) (c .steps) (c .packed) b (made .called))
 stands (next ws ws′ c cs h made) = go (begins c) refl (stands h)
   where
     go : (b : Bool) → begins c ≡ b → Stands (links cs) (putIn (since cs)) (takenOut (since cs)) (packings (since cs)) (steps (since cs)) ws → Now c cs ws′ b
-    go true e s = begun (c .order) (c .work) ws ws′ (c .answer) (c .word) (c .steps) (c .packed) e made
+    go true e s = begun (c .order) (c .work) ws ws′ (c .answer) (c .word) (c .steps) (c .packed) e (made .called)
     go false e s = goes-after ws ws′ c s made e

@@ -98,8 +98,8 @@ module _ {cs : List Call} {ws : List ℕ} (h : History cs ws) where
     shown order is done least =
         let o = call (c .work) order a in
         let same = ap (λ order. call (c .work) order a) is in
-        let d : T (isDone (o .answer)) = subst T (sym done ∙ ap isDone (made .answer-is ∙ ap (λ o. o .answer) same)) tt in
-        subst (λ w. Smallest w (since cs)) (sym (made .word-is ∙ ap (λ o. o .word) same)) (smallest (o .word) (least d))
+        let d : T (isDone (o .answer)) = subst T (sym done ∙ ap isDone (made .called .answer-is ∙ ap (λ o. o .answer) same)) tt in
+        subst (λ w. Smallest w (since cs)) (sym (made .called .word-is ∙ ap (λ o. o .word) same)) (smallest (o .word) (least d))
 
     pub smallest-taken : c .order ≡ takeIt → accepted c ≡ true → Smallest (c .word) (since cs)
     unfolding call

@@ -49,10 +49,10 @@ adds ws ws′ c made = go (accepted c) refl
   where
     go : (b : Bool) → accepted c ≡ b
         → (elim b as (λ b. Tally) [ true ↦ addedIfDone (callOf (c .order)) (c .steps) (c .packed) | false ↦ nothing ]) ≡ oneOf (c .order) b (c .word) (c .steps) (c .packed)
-    go true e = done-adds (c .work) (lentOf ws) (c .order) (c .word) (c .steps) (c .packed) (made .steps-are) (made .packed-is)
+    go true e = done-adds (c .work) (lentOf ws) (c .order) (c .word) (c .steps) (c .packed) (made .called .steps-are) (made .called .packed-is)
     go false e =
-        let plain = refusal-plain (lentOf ws) (c .work) (c .order) (ap isDone (sym (made .answer-is)) ∙ e) in
-        same refl refl (sym (made .steps-are ∙ plain .steps)) (sym (ap once (made .packed-is ∙ plain .packed)))
+        let plain = refusal-plain (lentOf ws) (c .work) (c .order) (ap isDone (sym (made .called .answer-is)) ∙ e) in
+        same refl refl (sym (made .called .steps-are ∙ plain .steps)) (sym (ap once (made .called .packed-is ∙ plain .packed)))
 
 -- ---- calls one after the other
 

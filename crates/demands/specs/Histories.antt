@@ -11,7 +11,7 @@ use Rattle.rules.specs.Entries.{wholeWord}
 use Rattle.rules.specs.Tests.{_and_, _or_}
 use Rattle.rules.specs.Examples.{Order, setupOf, insertOf, takeIt, lookAt, heldNow, auditIt, call}
 use Rattle.buffers.specs.Format.{lentOf}
-use Rattle.queue.specs.Calls.{Called}
+use Rattle.queue.specs.Calls.{Called, Besides}
 
 -- ---- calls
 
@@ -25,8 +25,13 @@ pub record Call : Type 0 where
   pub packed : Bool
 
 -- "each related to the next by the contracts of the calls": the call was made on the words ws and left the words ws′
-abbrev pub Made : List ℕ → Call → List ℕ → Type 0
-Made ws c ws′ = Called ws ws′ (call (c .work) (c .order) (lentOf ws)) (c .answer) (c .word) (c .steps) (c .packed)
+pub record Made (ws : List ℕ) (c : Call) (ws′ : List ℕ) : Type 0 where
+  pub called : Called ws ws′ (call (c .work) (c .order) (lentOf ws)) (c .answer) (c .word) (c .steps) (c .packed)
+  -- the work area that was lent, and as it was left
+  pub area : List ℕ
+  pub left : List ℕ
+  pub lent : length area ≡ c .work
+  pub besides : Besides (c .order) ws ws′ area left (c .answer)
 
 abbrev pub accepted : Call → Bool
 accepted c = isDone (c .answer)

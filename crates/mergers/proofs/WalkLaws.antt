@@ -24,10 +24,10 @@ use Rattle.buffers.specs.Post.{Inside, Has, Now, Kept, Word, Laying, Emptied}
 use Rattle.buffers.proofs.SlotLaws.{capacity-is}
 use Rattle.buffers.proofs.ArrayLaws.{has, buffers-length, kept-links, kept-then, kept-none}
 use Rattle.mergers.specs.Moves.{runLength}
-use Rattle.mergers.specs.Subtree.{subtree, firstInput, secondInput, secondLink}
+use Rattle.mergers.specs.Subtree.{subtree, heightBelow, firstInput, secondInput, secondLink}
 use Rattle.mergers.specs.Post.{wanted, wantedIn, Placed, Fed, At, Moving, Merging, Turning, Ran, seenIf, touchedIf, turnedBy}
 use Rattle.mergers.specs.Fills.{MarksRight, StandsIn, CanFill, Did}
-use Rattle.mergers.proofs.SubtreeLaws.{fed-by-none, fed-by-two, past-last, part-among, part-roomy, first-spot, second-spot}
+use Rattle.mergers.proofs.SubtreeLaws.{height-falls, fed-by-none, fed-by-two, past-last, part-among, part-roomy, first-spot, second-spot}
 use Rattle.mergers.proofs.TurnLaws.{refilled, Ready}
 use Rattle.mergers.proofs.RunLaws.{plus, filling}
 use Rattle.mergers.proofs.BoundLaws.{steps-few}
@@ -255,12 +255,8 @@ module _ {ws₀ ws₁ : List ℕ} {last i j n at room n₁ at₁ p n₂ at₂ q 
           marks = f .marks-one;
         }
 
-    pub one-falls : 61 - (first i + p) < 61 - (first i + j)
-    one-falls = omega (arith, g .p-is, further j, first-most link, one-in .below)
-      where
-        further : (j : ℕ) → j < firstInput j
-        further zero = omega arith
-        further (suc j) = omega arith
+    pub one-falls : heightBelow last i p < heightBelow last i j
+    one-falls = rw (g .p-is, tree-is) (height-falls (first i + j) c t₁ t₂ .0)
 
     -- ---- the second input, after the first has been filled
 
@@ -308,14 +304,8 @@ module _ {ws₀ ws₁ : List ℕ} {last i j n at room n₁ at₁ p n₂ at₂ q 
             marks = marks-A;
           }
 
-      pub two-falls : wantedIn wsA last s n₂ ≡ true → 61 - (first s + q) < 61 - (first i + j)
-      two-falls w =
-          let low = two-low w in
-          rw (g .s-is, g .q-is) (omega (arith, further j (g .above), first-most (two-in low .link), two-in low .below))
-        where
-          further : (j : ℕ) → j < k i → first i + j < first (secondLink i j) + secondInput j
-          further zero above = omega (arith, first-next i (link .low), k-least link)
-          further (suc j) above = omega arith
+      pub two-falls : heightBelow last s q < heightBelow last i j
+      two-falls = rw (g .s-is, g .q-is, tree-is) (height-falls (first i + j) c t₁ t₂ .1)
 
       -- ---- and then the run of merge steps
 

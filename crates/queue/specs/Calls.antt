@@ -9,6 +9,7 @@ use Rattle.rules.specs.declared.Answer.{Answer}
 use Rattle.rules.specs.Answers.{isDone}
 use Rattle.rules.specs.Book.{sound}
 use Rattle.rules.specs.Calls as rules
+use Rattle.rules.specs.Examples.{Order, setupOf, insertOf, takeIt, lookAt, heldNow, auditIt}
 use Rattle.buffers.specs.Format.{linksIn, bookOf, lentOf}
 
 -- answer, word, steps and packing are the rules' own; no word past the stated length changes; "Every refusal changes nothing; every accepted call leaves a book that keeps all book rules"
@@ -32,3 +33,12 @@ pub record WorkKept (links : ℕ) (answer : Answer) (work work′ : List ℕ) : 
   pub long : length work′ ≡ length work
   pub past : (p : ℕ) → most links ≤ p → getD work′ p 0 ≡ getD work p 0
   pub refused : isDone answer ≡ false → work′ ≡ work
+
+-- what a call leaves besides: a setup "slots keep their words"; "held and audit change nothing"; "Take, look, held and audit get no work area"; of an insert's the words past H
+abbrev pub Besides : Order → (ws ws′ work work′ : List ℕ) → Answer → Type 0
+Besides (setupOf links) ws ws′ work work′ answer = SlotsKept ws ws′ × (work′ ≡ work)
+Besides (insertOf entry) ws ws′ work work′ answer = WorkKept (linksIn ws) answer work work′
+Besides takeIt ws ws′ work work′ answer = work′ ≡ work
+Besides lookAt ws ws′ work work′ answer = work′ ≡ work
+Besides heldNow ws ws′ work work′ answer = (ws′ ≡ ws) × (work′ ≡ work)
+Besides auditIt ws ws′ work work′ answer = (ws′ ≡ ws) × (work′ ≡ work)

@@ -122,36 +122,38 @@ after-alike ws vs ws′ vs′ o p same e one two = both (isDone (o .answer)) ref
 -- ---- runs
 
 -- a run over one line more, taken apart
-record Went (work : ℕ) (ws : List ℕ) (read : Back frame.Order) (reads : List (Back frame.Order)) (ws′ bytes : List ℕ) : Type 0 where
+record Went (n : ℕ) (ws : List ℕ) (read : Back frame.Order) (reads : List (Back frame.Order)) (ws′ work′ bytes : List ℕ) : Type 0 where
   next : List ℕ
+  left : List ℕ
   more : List ℕ
-  after : After ws next (lineCall work read (lentOf ws))
-  run : Runs work next reads ws′ more
-  whole : bytes ≡ answerOf (lineCall work read (lentOf ws)) ++ more
+  after : After ws next (lineCall n read (lentOf ws))
+  run : Runs n next left reads ws′ work′ more
+  whole : bytes ≡ answerOf (lineCall n read (lentOf ws)) ++ more
 
-abbrev Apart : ℕ → List ℕ → List (Back frame.Order) → List ℕ → List ℕ → Type 0
-Apart work ws [] ws′ bytes = (ws′ ≡ ws) × (bytes ≡ [])
-Apart work ws (read ∷ reads) ws′ bytes = Went work ws read reads ws′ bytes
+abbrev Apart : ℕ → List ℕ → List (Back frame.Order) → List ℕ → List ℕ → List ℕ → Type 0
+Apart n ws [] ws′ work′ bytes = (ws′ ≡ ws) × (bytes ≡ [])
+Apart n ws (read ∷ reads) ws′ work′ bytes = Went n ws read reads ws′ work′ bytes
 
-apart : {work : ℕ} {ws ws′ : List ℕ} {reads : List (Back frame.Order)} {bytes : List ℕ} → Runs work ws reads ws′ bytes → Apart work ws reads ws′ bytes
-apart (ends ws) = (refl, refl)
-apart (goes ws next ws′ read reads bytes after run) = record { next = next; more = bytes; after = after; run = run; whole = refl }
+apart : {n : ℕ} {ws ws′ work work′ : List ℕ} {reads : List (Back frame.Order)} {bytes : List ℕ} → Runs n ws work reads ws′ work′ bytes → Apart n ws reads ws′ work′ bytes
+apart (ends ws work) = (refl, refl)
+apart (goes ws work next left ws′ work′ read reads bytes after leaves run) = record { next = next; left = left; more = bytes; after = after; run = run; whole = refl }
 
 -- the same bytes come out, and the arrays are alike
 pub record SameRun (ws vs xs ys : List ℕ) : Type 0 where
   pub bytes : xs ≡ ys
   pub alike : Alike (lentOf ws) (lentOf vs)
 
-pub runs-alike : {work : ℕ} {ws ws′ vs vs′ : List ℕ} {reads : List (Back frame.Order)} {xs ys : List ℕ}
-    → Runs work ws reads ws′ xs → Runs work vs reads vs′ ys → Alike (lentOf ws) (lentOf vs) → SameRun ws′ vs′ xs ys
-runs-alike {vs = vs} {vs′ = vs′} (ends ws) two e =
+-- whatever stands in the work areas
+pub runs-alike : {n : ℕ} {ws ws′ vs vs′ work work′ area area′ : List ℕ} {reads : List (Back frame.Order)} {xs ys : List ℕ}
+    → Runs n ws work reads ws′ work′ xs → Runs n vs area reads vs′ area′ ys → Alike (lentOf ws) (lentOf vs) → SameRun ws′ vs′ xs ys
+runs-alike {vs = vs} {vs′ = vs′} (ends ws work) two e =
     let z = apart two in
     record { bytes = sym (z .1); alike = subst (λ (l : List ℕ). Alike (lentOf ws) (lentOf l)) (sym (z .0)) e }
-runs-alike {work = work} {vs = vs} {vs′ = vs′} (goes ws next ws′ read reads bytes after run) two e =
+runs-alike {n = n} {vs = vs} {vs′ = vs′} (goes ws work next left ws′ work′ read reads bytes after leaves run) two e =
     let z = apart two in
-    let same : lineCall work read (lentOf ws) ≡ lineCall work read (lentOf vs) = values-alike (lentOf ws) (lentOf vs) e work (read .values) in
-    let rest = runs-alike run (z .run) (after-alike ws vs next (z .next) (lineCall work read (lentOf ws)) (lineCall work read (lentOf vs)) same e after (z .after)) in
+    let same : lineCall n read (lentOf ws) ≡ lineCall n read (lentOf vs) = values-alike (lentOf ws) (lentOf vs) e n (read .values) in
+    let rest = runs-alike run (z .run) (after-alike ws vs next (z .next) (lineCall n read (lentOf ws)) (lineCall n read (lentOf vs)) same e after (z .after)) in
     record {
-      bytes = ap (λ (o : Outcome). answerOf o ++ bytes) same ∙ ap (λ (l : List ℕ). answerOf (lineCall work read (lentOf vs)) ++ l) (rest .bytes) ∙ sym (z .whole);
+      bytes = ap (λ (o : Outcome). answerOf o ++ bytes) same ∙ ap (λ (l : List ℕ). answerOf (lineCall n read (lentOf vs)) ++ l) (rest .bytes) ∙ sym (z .whole);
       alike = rest .alike;
     }

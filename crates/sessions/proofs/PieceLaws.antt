@@ -109,18 +109,18 @@ between-join piece a b c p q =
 
 -- ---- the loop
 
-pub ran-starts : (work : ℕ) (ws k piece : List ℕ) (at : ℕ) (out : List ℕ) → PieceRan work ws ws k piece at out out k at 0
+pub ran-starts : (n : ℕ) (ws work k piece : List ℕ) (at : ℕ) (out : List ℕ) → PieceRan n ws ws work work k piece at out out k at 0
 unfolding ordersFrom keptAfter
-ran-starts work ws k piece at out =
+ran-starts n ws work k piece at out =
     let none : at - at ≡ 0 = omega arith in
     record {
       forth = omega arith;
       within = λ h. h;
       over = λ h. refl;
       room = λ i h g. absurd (omega arith);
-      keeps = sym (ap (λ (n : ℕ). keptAfter k (take n (drop at piece))) none);
+      keeps = sym (ap (λ (m : ℕ). keptAfter k (take m (drop at piece))) none);
       bytes = [];
-      run = subst (λ (n : ℕ). Runs work ws (ordersFrom k (take n (drop at piece))) ws []) (sym none) (ends ws);
+      run = subst (λ (m : ℕ). Runs n ws work (ordersFrom k (take m (drop at piece))) ws work []) (sym none) (ends ws work);
       count = refl;
       inside = omega arith;
       after = refl;
@@ -129,11 +129,11 @@ ran-starts work ws k piece at out =
 pub ran-further : (k piece : List ℕ) (i : ℕ) (r : Next) → nextBack r ≡ nextOf k i (drop i piece) → i < length piece → i < r .at
 ran-further k piece i r next h = reads-next k piece i (nextBack r) next .further h
 
-module _ (work work′ : ℕ) (ws now later k piece : List ℕ) (at : ℕ) (out out₁ out₂ k₁ : List ℕ) (i n m : ℕ) (ran : PieceRan work ws now k piece at out out₁ k₁ i n)
-    (r : Next) (next : nextBack r ≡ nextOf k₁ i (drop i piece)) (same : work′ ≡ work) (served′ : ServedAt work′ now later (endedBack (r .ended)) out₁ out₂ n m)
+module _ (size size′ : ℕ) (ws now later work work₁ work₂ k piece : List ℕ) (at : ℕ) (out out₁ out₂ k₁ : List ℕ) (i n m : ℕ) (ran : PieceRan size ws now work work₁ k piece at out out₁ k₁ i n)
+    (r : Next) (next : nextBack r ≡ nextOf k₁ i (drop i piece)) (same : size′ ≡ size) (served′ : ServedAt size′ now later work₁ work₂ (endedBack (r .ended)) out₁ out₂ n m)
     (left : i < length piece) (fits : n + 27 ≤ length out₁) where
-  served : ServedAt work now later (endedBack (r .ended)) out₁ out₂ n m
-  served = subst (λ (w : ℕ). ServedAt w now later (endedBack (r .ended)) out₁ out₂ n m) same served′
+  served : ServedAt size now later work₁ work₂ (endedBack (r .ended)) out₁ out₂ n m
+  served = subst (λ (w : ℕ). ServedAt w now later work₁ work₂ (endedBack (r .ended)) out₁ out₂ n m) same served′
 
   same-room : length out₁ ≡ length out
   same-room = ap length (ran .after) ∙ length-append (ran .bytes) (drop n out) ∙ omega (arith, ran .count, ran .inside, length-drop n out)
@@ -153,7 +153,7 @@ module _ (work work′ : ℕ) (ws now later k piece : List ℕ) (at : ℕ) (out 
             omega (arith, ap length same, ran .count, runs-long (ran .run), same-room)
       ]
 
-  pub ran-on : PieceRan work ws later k piece at out out₂ (kept (r .cutter)) (r .at) m
+  pub ran-on : PieceRan size ws later work work₂ k piece at out out₂ (kept (r .cutter)) (r .at) m
   ran-on =
       let z = reads-next k₁ piece i (nextBack r) next in
       let join : between at (r .at) piece ≡ between at i piece ++ between i (r .at) piece = between-join piece at i (r .at) (ran .forth) (z .behind) in
@@ -172,7 +172,7 @@ module _ (work work′ : ℕ) (ws now later k piece : List ℕ) (at : ℕ) (out 
             z .keeps ∙ ap (λ (l : List ℕ). keptAfter l (between i (r .at) piece)) (ran .keeps)
             ∙ sym (ap (keptAfter k) join ∙ kept-append k (between at i piece) (between i (r .at) piece));
         bytes = ran .bytes ++ served .bytes;
-        run = subst (λ (reads : List (Back Order)). Runs work ws reads later (ran .bytes ++ served .bytes)) (all z join) (runs-append (ran .run) (served .run));
+        run = subst (λ (reads : List (Back Order)). Runs size ws work reads later work₂ (ran .bytes ++ served .bytes)) (all z join) (runs-append (ran .run) (served .run));
         count = served .count ∙ sym (length-append (ran .bytes) (served .bytes) ∙ omega (arith, ran .count));
         inside = omega (arith, served .inside, same-room);
         after =
@@ -188,7 +188,7 @@ module _ (work work′ : ℕ) (ws now later k piece : List ℕ) (at : ℕ) (out 
 
 -- ---- for a loop that runs a piece to its end
 
-module _ {work : ℕ} {ws ws′ k piece : List ℕ} {at : ℕ} {out out′ k′ : List ℕ} {at′ written : ℕ} (ran : PieceRan work ws ws′ k piece at out out′ k′ at′ written) where
+module _ {n : ℕ} {ws ws′ work work′ k piece : List ℕ} {at : ℕ} {out out′ k′ : List ℕ} {at′ written : ℕ} (ran : PieceRan n ws ws′ work work′ k piece at out out′ k′ at′ written) where
   pub ran-long : written ≡ 27 * length (ordersFrom k (between at at′ piece))
   ran-long = ran .count ∙ runs-long (ran .run)
 
@@ -196,7 +196,7 @@ module _ {work : ℕ} {ws ws′ k piece : List ℕ} {at : ℕ} {out out′ k′ 
   unfolding ordersFrom
   still e =
       let none : at′ - at ≡ 0 = omega arith in
-      ran-long ∙ ap (λ (n : ℕ). 27 * length (ordersFrom k (take n (drop at piece)))) none
+      ran-long ∙ ap (λ (m : ℕ). 27 * length (ordersFrom k (take m (drop at piece)))) none
 
   -- where there is room for an answer, at least one byte is read
   pub ran-moves : 27 ≤ length out → at < length piece → NoMore piece at′ out written → at < at′
@@ -208,7 +208,7 @@ module _ {work : ℕ} {ws ws′ k piece : List ℕ} {at : ℕ} {out out′ k′ 
       ]
 
 -- what was answered fits the buffer
-pub served-fits : {work : ℕ} {ws ws′ : List ℕ} {reads : List (Back Order)} {out out′ : List ℕ} {r : Written} (n : ℕ) → Served work ws ws′ reads out out′ r → r ≡ Bytes n → n ≤ length out
+pub served-fits : {size : ℕ} {ws ws′ work work′ : List ℕ} {reads : List (Back Order)} {out out′ : List ℕ} {r : Written} (n : ℕ) → Served size ws ws′ work work′ reads out out′ r → r ≡ Bytes n → n ≤ length out
 served-fits {reads = reads} {out = out} n served e =
     elim (decLt (length out) (27 * length reads)) [
       | yes h ↦ not-done (ap writtenBack (sym (served .short h .0) ∙ e))

@@ -33,10 +33,10 @@ use Rattle.lines.specs.Answers.{endedBack}
 use Rattle.lines.specs.Cutter.{lastOf}
 use Rattle.lines.specs.declared.Ended.{Ended}
 use Rattle.lines.specs.declared.Ended.the-variants.{Line, Nothing}
-use Rattle.buffers.specs.Format.{lentOf}
-use Rattle.queue.specs.Calls.{Called}
+use Rattle.buffers.specs.Format.{linksIn, lentOf}
+use Rattle.queue.specs.Calls.{Called, SlotsKept, WorkKept, Besides}
 use Rattle.queue.proofs.CallLaws.{refused-called}
-use Rattle.sessions.specs.Runs.{asked, orderCall, valuesCall, lineCall, answerOf, After, Runs, ends, goes, Filled, Served, ServedAt}
+use Rattle.sessions.specs.Runs.{asked, orderCall, valuesCall, lineCall, answerOf, After, Left, Runs, ends, goes, Filled, Served, ServedAt}
 
 -- ---- one call
 
@@ -67,13 +67,40 @@ module _ (ws ws′ : List ℕ) (work : ℕ) (order : Order) (answer : Answer) (w
   unfolding orderCall orders.call
   audit-called e called = rw e called
 
+-- and so is what it leaves
+module _ (ws ws′ work work′ : List ℕ) (order : Order) (answer : Answer) where
+  pub setup-left : (links : ℕ) → order ≡ Setup links → SlotsKept ws ws′ → work′ ≡ work → Besides (asked order) ws ws′ work work′ answer
+  setup-left links e slots same = rw e (slots, same)
+
+  pub insert-left : (e : Entry) → order ≡ Insert e → WorkKept (linksIn ws) answer work work′ → Besides (asked order) ws ws′ work work′ answer
+  insert-left e q kept = rw q kept
+
+  pub take-left : order ≡ Take → work′ ≡ work → Besides (asked order) ws ws′ work work′ answer
+  take-left e same = rw e same
+
+  pub look-left : order ≡ Look → work′ ≡ work → Besides (asked order) ws ws′ work work′ answer
+  look-left e same = rw e same
+
+  pub held-left : order ≡ Held → ws′ ≡ ws → work′ ≡ work → Besides (asked order) ws ws′ work work′ answer
+  held-left e unchanged same = rw e (unchanged, same)
+
+  pub audit-left : order ≡ Audit → ws′ ≡ ws → work′ ≡ work → Besides (asked order) ws ws′ work work′ answer
+  audit-left e unchanged same = rw e (unchanged, same)
+
 -- what a line does is what its order does
 pub line-called : (ws ws′ : List ℕ) (work : ℕ) (read : ReadFrame) (order : Order) (answer : Answer) (word steps : ℕ) (packed : Bool) → read ≡ Read order
     → Called ws ws′ (orderCall work order (lentOf ws)) answer word steps packed → Called ws ws′ (lineCall work (readBack read) (lentOf ws)) answer word steps packed
 unfolding valuesCall
 line-called ws ws′ work read order answer word steps packed e called = rw e called
 
+pub line-left : (ws ws′ work work′ : List ℕ) (read : ReadFrame) (order : Order) (answer : Answer) → read ≡ Read order
+    → Besides (asked order) ws ws′ work work′ answer → Left (readBack read .values) ws ws′ work work′ answer
+line-left ws ws′ work work′ read order answer e left = rw e left
+
 -- a line that is no frame
+pub nothing-left : (ws work : List ℕ) (read : ReadFrame) (answer : Answer) → read ≡ NotRead → Left (readBack read .values) ws ws work work answer
+nothing-left ws work read answer e = rw e (refl, refl)
+
 pub line-refused : (ws : List ℕ) (work : ℕ) (read : ReadFrame) → read ≡ NotRead → Called ws ws (lineCall work (readBack read) (lentOf ws)) NotAFrame 0 0 false
 unfolding valuesCall isDone
 line-refused ws work read e = rw e (refused-called ws (rules.refused NotAFrame (rules.queueOf (lentOf ws))) NotAFrame refl refl)
@@ -107,36 +134,39 @@ digits-rest n = sym (digits-beside 8 n (n % 4294967296) (n / 4294967296) (omega 
 
 -- ---- runs
 
-pub runs-one : (work : ℕ) (ws ws′ : List ℕ) (read : Back Order) → After ws ws′ (lineCall work read (lentOf ws)) → Runs work ws (read ∷ []) ws′ (answerOf (lineCall work read (lentOf ws)))
-runs-one work ws ws′ read after = subst (Runs work ws (read ∷ []) ws′) (append-nil _) (goes ws ws′ ws′ read [] [] after (ends ws′))
+pub runs-one : (n : ℕ) (ws ws′ work work′ : List ℕ) (read : Back Order) → After ws ws′ (lineCall n read (lentOf ws)) → Left (read .values) ws ws′ work work′ (lineCall n read (lentOf ws) .answer)
+    → Runs n ws work (read ∷ []) ws′ work′ (answerOf (lineCall n read (lentOf ws)))
+runs-one n ws ws′ work work′ read after left = subst (Runs n ws work (read ∷ []) ws′ work′) (append-nil _) (goes ws work ws′ work′ ws′ work′ read [] [] after left (ends ws′ work′))
 
-module _ {work : ℕ} where
-  pub runs-append : {ws ws₁ ws₂ : List ℕ} {rs ss : List (Back Order)} {xs ys : List ℕ} → Runs work ws rs ws₁ xs → Runs work ws₁ ss ws₂ ys → Runs work ws (rs ++ ss) ws₂ (xs ++ ys)
-  runs-append (ends ws) two = two
-  runs-append {ws₂ = ws₂} {ss = ss} {ys = ys} (goes ws next ws₁ read reads bytes after one) two =
-      subst (Runs work ws (read ∷ (reads ++ ss)) ws₂) (sym (append-assoc (answerOf (lineCall work read (lentOf ws))) bytes ys)) (goes ws next ws₂ read (reads ++ ss) (bytes ++ ys) after (runs-append one two))
+module _ {n : ℕ} where
+  pub runs-append : {ws ws₁ ws₂ work work₁ work₂ : List ℕ} {rs ss : List (Back Order)} {xs ys : List ℕ}
+      → Runs n ws work rs ws₁ work₁ xs → Runs n ws₁ work₁ ss ws₂ work₂ ys → Runs n ws work (rs ++ ss) ws₂ work₂ (xs ++ ys)
+  runs-append (ends ws work) two = two
+  runs-append {ws₂ = ws₂} {work₂ = work₂} {ss = ss} {ys = ys} (goes ws work next left ws₁ work₁ read reads bytes after leaves one) two =
+      subst (Runs n ws work (read ∷ (reads ++ ss)) ws₂ work₂) (sym (append-assoc (answerOf (lineCall n read (lentOf ws))) bytes ys))
+      (goes ws work next left ws₂ work₂ read (reads ++ ss) (bytes ++ ys) after leaves (runs-append one two))
 
   -- each line is answered by one line
-  pub runs-long : {ws ws′ : List ℕ} {rs : List (Back Order)} {bytes : List ℕ} → Runs work ws rs ws′ bytes → length bytes ≡ 27 * length rs
-  runs-long (ends ws) = refl
-  runs-long (goes ws next ws′ read reads bytes after run) =
-      let o : rules.Outcome = lineCall work read (lentOf ws) in
+  pub runs-long : {ws ws′ work work′ : List ℕ} {rs : List (Back Order)} {bytes : List ℕ} → Runs n ws work rs ws′ work′ bytes → length bytes ≡ 27 * length rs
+  runs-long (ends ws work) = refl
+  runs-long (goes ws work next left ws′ work′ read reads bytes after leaves run) =
+      let o : rules.Outcome = lineCall n read (lentOf ws) in
       let more : length bytes ≡ 27 * length reads = runs-long run in
       length-append (answerOf o) bytes ∙ omega (arith, answer-long (numberOf (o .answer)) (o .word) (o .steps), more)
 
 -- ---- answers laid
 
-pub served-short : (work : ℕ) (ws : List ℕ) (read : Back Order) (out : List ℕ) → length out < 27 → Served work ws ws (read ∷ []) out out Refused
-served-short work ws read out h = record { room = λ g. absurd (omega arith); short = λ g. (refl, refl, refl) }
+pub served-short : (n : ℕ) (ws work : List ℕ) (read : Back Order) (out : List ℕ) → length out < 27 → Served n ws ws work work (read ∷ []) out out Refused
+served-short n ws work read out h = record { room = λ g. absurd (omega arith); short = λ g. (refl, refl, refl, refl) }
 
-pub served-nothing : (work : ℕ) (ws out : List ℕ) → Served work ws ws [] out out (Bytes 0)
-served-nothing work ws out = record { room = λ g. record { bytes = []; run = ends ws; count = refl; after = refl }; short = λ g. absurd (omega arith) }
+pub served-nothing : (n : ℕ) (ws work out : List ℕ) → Served n ws ws work work [] out out (Bytes 0)
+served-nothing n ws work out = record { room = λ g. record { bytes = []; run = ends ws work; count = refl; after = refl }; short = λ g. absurd (omega arith) }
 
-pub served-one : (work : ℕ) (ws ws′ : List ℕ) (read : Back Order) (out out′ : List ℕ) (r : Written) (answer : Answer) (number word steps : ℕ) (packed : Bool) → 27 ≤ length out
-    → Called ws ws′ (lineCall work read (lentOf ws)) answer word steps packed → number ≡ numberOf answer → Laid true (answerLine number word (steps % 4294967296)) out out′ r
-    → Served work ws ws′ (read ∷ []) out out′ r
-served-one work ws ws′ read out out′ r answer number word steps packed h called number-is laid =
-    let o : rules.Outcome = lineCall work read (lentOf ws) in
+pub served-one : (n : ℕ) (ws ws′ work work′ : List ℕ) (read : Back Order) (out out′ : List ℕ) (r : Written) (answer : Answer) (number word steps : ℕ) (packed : Bool) → 27 ≤ length out
+    → Called ws ws′ (lineCall n read (lentOf ws)) answer word steps packed → Left (read .values) ws ws′ work work′ answer → number ≡ numberOf answer
+    → Laid true (answerLine number word (steps % 4294967296)) out out′ r → Served n ws ws′ work work′ (read ∷ []) out out′ r
+served-one n ws ws′ work work′ read out out′ r answer number word steps packed h called left number-is laid =
+    let o : rules.Outcome = lineCall n read (lentOf ws) in
     let line : answerLine number word (steps % 4294967296) ≡ answerOf o =
     rw (number-is, called .answer-is, called .word-is, called .steps-are, digits-rest (o .steps)) refl in
     let laid : Laid true (answerOf o) out out′ r = subst (λ l. Laid true l out out′ r) line laid in
@@ -145,7 +175,7 @@ served-one work ws ws′ read out out′ r answer number word steps packed h cal
     record {
       room = λ g. record {
         bytes = answerOf o;
-        run = runs-one work ws ws′ read (after-called ws ws′ o answer word steps packed called);
+        run = runs-one n ws ws′ work work′ read (after-called ws ws′ o answer word steps packed called) (subst (Left (read .values) ws ws′ work work′) (called .answer-is) left);
         count = written-same r (Bytes (length (answerOf o))) (laid .answer ∙ rw fits refl);
         after = laid .after ∙ rw fits refl;
       };
@@ -164,43 +194,43 @@ drop-take m k l =
 
 -- a line that may have ended
 
-pub served-line : (work : ℕ) (ws ws′ : List ℕ) (ended : Ended) (read : ReadFrame) (out out′ : List ℕ) (r : Written) → ended ≡ Line read
-    → Served work ws ws′ (readBack read ∷ []) out out′ r → Served work ws ws′ (endedBack ended) out out′ r
-served-line work ws ws′ ended read out out′ r e served = rw e served
+pub served-line : (n : ℕ) (ws ws′ work work′ : List ℕ) (ended : Ended) (read : ReadFrame) (out out′ : List ℕ) (r : Written) → ended ≡ Line read
+    → Served n ws ws′ work work′ (readBack read ∷ []) out out′ r → Served n ws ws′ work work′ (endedBack ended) out out′ r
+served-line n ws ws′ work work′ ended read out out′ r e served = rw e served
 
-pub served-none : (work : ℕ) (ws : List ℕ) (ended : Ended) (out : List ℕ) → ended ≡ Nothing → Served work ws ws (endedBack ended) out out (Bytes 0)
-served-none work ws ended out e = rw e (served-nothing work ws out)
+pub served-none : (n : ℕ) (ws work : List ℕ) (ended : Ended) (out : List ℕ) → ended ≡ Nothing → Served n ws ws work work (endedBack ended) out out (Bytes 0)
+served-none n ws work ended out e = rw e (served-nothing n ws work out)
 
 -- the last line
-pub served-last : (work : ℕ) (ws ws′ : List ℕ) (ended : Ended) (k out out′ : List ℕ) (r : Written) → endedBack ended ≡ lastOf k
-    → Served work ws ws′ (endedBack ended) out out′ r → Served work ws ws′ (lastOf k) out out′ r
-served-last work ws ws′ ended k out out′ r e served = subst (λ (reads : List (Back Order)). Served work ws ws′ reads out out′ r) e served
+pub served-last : (n : ℕ) (ws ws′ work work′ : List ℕ) (ended : Ended) (k out out′ : List ℕ) (r : Written) → endedBack ended ≡ lastOf k
+    → Served n ws ws′ work work′ (endedBack ended) out out′ r → Served n ws ws′ work work′ (lastOf k) out out′ r
+served-last n ws ws′ work work′ ended k out out′ r e served = subst (λ (reads : List (Back Order)). Served n ws ws′ work work′ reads out out′ r) e served
 
 ended-few : (e : Ended) → 27 * length (endedBack e) ≤ 27
 ended-few (Line read) = omega arith
 ended-few Nothing = omega arith
 
 -- the part of a buffer that has just room for one answer
-module _ (work : ℕ) (ws ws′ : List ℕ) (ended : Ended) (out part : List ℕ) (at : ℕ) (r : Written) (room : at + 27 ≤ length out)
-    (served : Served work ws ws′ (endedBack ended) (midOf at (at + 27 - at) out) part r) where
+module _ (n : ℕ) (ws ws′ work work′ : List ℕ) (ended : Ended) (out part : List ℕ) (at : ℕ) (r : Written) (room : at + 27 ≤ length out)
+    (served : Served n ws ws′ work work′ (endedBack ended) (midOf at (at + 27 - at) out) part r) where
   part-long : length (midOf at (at + 27 - at) out) ≡ 27
   part-long = mid-len at (at + 27) out room ∙ omega arith
 
-  part-filled : Filled work ws ws′ (endedBack ended) (midOf at (at + 27 - at) out) part r
+  part-filled : Filled n ws ws′ work work′ (endedBack ended) (midOf at (at + 27 - at) out) part r
   part-filled = served .room (omega (arith, ended-few ended, part-long))
 
   pub part-refused : {P : Type 0} → r ≡ Refused → P
   part-refused e = not-done (ap writtenBack (sym e ∙ part-filled .count))
 
-  pub part-count : (n : ℕ) → r ≡ Bytes n → n ≤ 27
-  part-count n e =
-      let same : done n ≡ done (length (part-filled .bytes)) = ap writtenBack (sym e ∙ part-filled .count) in
+  pub part-count : (many : ℕ) → r ≡ Bytes many → many ≤ 27
+  part-count many e =
+      let same : done many ≡ done (length (part-filled .bytes)) = ap writtenBack (sym e ∙ part-filled .count) in
       omega (arith, done-same same, runs-long (part-filled .run), ended-few ended)
 
-  pub part-served : (n : ℕ) → r ≡ Bytes n → ServedAt work ws ws′ (endedBack ended) out (putMid at (at + 27 - at) out part) at (at + n)
-  part-served n e =
+  pub part-served : (many : ℕ) → r ≡ Bytes many → ServedAt n ws ws′ work work′ (endedBack ended) out (putMid at (at + 27 - at) out part) at (at + many)
+  part-served many e =
       let f = part-filled in
-      let same : n ≡ length (f .bytes) = done-same (ap writtenBack (sym e ∙ f .count)) in
+      let same : many ≡ length (f .bytes) = done-same (ap writtenBack (sym e ∙ f .count)) in
       let few : length (f .bytes) ≤ 27 = omega (arith, runs-long (f .run), ended-few ended) in
       record {
         bytes = f .bytes;

@@ -26,14 +26,14 @@ self ws = record { lengths = refl; queues = refl; sounds = refl }
 
 -- ---- calls of `run_piece` one behind the other
 
-module _ {work : ℕ} {ws next ws′ k k₁ k₂ piece : List ℕ} {at i j : ℕ} {out out₁ more more₁ : List ℕ} {n m : ℕ}
-    (one : PieceRan work ws next k piece at out out₁ k₁ i n) (two : PieceRan work next ws′ k₁ piece i more more₁ k₂ j m) where
+module _ {size : ℕ} {ws next ws′ work left work′ k k₁ k₂ piece : List ℕ} {at i j : ℕ} {out out₁ more more₁ : List ℕ} {n m : ℕ}
+    (one : PieceRan size ws next work left k piece at out out₁ k₁ i n) (two : PieceRan size next ws′ left work′ k₁ piece i more more₁ k₂ j m) where
   joined : between at j piece ≡ between at i piece ++ between i j piece
   joined = between-join piece at i j (one .forth) (two .forth)
 
   -- they answer what one would
-  pub then-runs : Runs work ws (ordersFrom k (between at j piece)) ws′ (one .bytes ++ two .bytes)
-  then-runs = subst (λ (reads : List (Back Order)). Runs work ws reads ws′ (one .bytes ++ two .bytes)) all (runs-append (one .run) (two .run))
+  pub then-runs : Runs size ws work (ordersFrom k (between at j piece)) ws′ work′ (one .bytes ++ two .bytes)
+  then-runs = subst (λ (reads : List (Back Order)). Runs size ws work reads ws′ work′ (one .bytes ++ two .bytes)) all (runs-append (one .run) (two .run))
     where
       all : ordersFrom k (between at i piece) ++ ordersFrom k₁ (between i j piece) ≡ ordersFrom k (between at j piece)
       all =
@@ -49,19 +49,20 @@ piece-whole piece at h = take-all (at - 0) piece (omega arith)
 
 -- ---- a session
 
-pub session-runs : {work : ℕ} {ws k ws′ bytes : List ℕ} {pieces : List (List ℕ)} → Session work ws k pieces ws′ bytes → Runs work ws (ordersOfPieces k pieces) ws′ bytes
+pub session-runs : {n : ℕ} {ws work k ws′ work′ bytes : List ℕ} {pieces : List (List ℕ)} → Session n ws work k pieces ws′ work′ bytes → Runs n ws work (ordersOfPieces k pieces) ws′ work′ bytes
 unfolding ordersOfPieces
-session-runs (finished ws k ws′ bytes run) = run
-session-runs (then-piece ws k piece next ws′ bytes more pieces run session) = runs-append run (session-runs session)
+session-runs (finished ws work k ws′ work′ bytes run) = run
+session-runs (then-piece ws work k piece next left ws′ work′ bytes more pieces run session) = runs-append run (session-runs session)
 
 -- a session answers the lines of all its bytes together, in order
-pub session-answers : {work : ℕ} {ws ws′ bytes : List ℕ} (pieces : List (List ℕ)) → Session work ws [] pieces ws′ bytes → Runs work ws (ordersOf (flatten pieces)) ws′ bytes
-session-answers {work} {ws} {ws′} {bytes} pieces session = subst (λ (reads : List (Back Order)). Runs work ws reads ws′ bytes) (any-pieces pieces) (session-runs session)
+pub session-answers : {n : ℕ} {ws ws′ work work′ bytes : List ℕ} (pieces : List (List ℕ)) → Session n ws work [] pieces ws′ work′ bytes → Runs n ws work (ordersOf (flatten pieces)) ws′ work′ bytes
+session-answers {n} {ws} {ws′} {work} {work′} {bytes} pieces session = subst (λ (reads : List (Back Order)). Runs n ws work reads ws′ work′ bytes) (any-pieces pieces) (session-runs session)
 
--- the same bytes, in whatever pieces: the same answers
-pub same-answers : {work : ℕ} {ws ws₁ ws₂ xs ys : List ℕ} (ps qs : List (List ℕ)) → flatten ps ≡ flatten qs → Session work ws [] ps ws₁ xs → Session work ws [] qs ws₂ ys → SameRun ws₁ ws₂ xs ys
-same-answers {work} {ws} {ws₁} {ws₂} {xs} {ys} ps qs same one two =
-    runs-alike (session-answers ps one) (subst (λ (bytes : List ℕ). Runs work ws (ordersOf bytes) ws₂ ys) (sym same) (session-answers qs two))
+-- the same bytes, in whatever pieces and with whatever in the work areas: the same answers
+pub same-answers : {n : ℕ} {ws ws₁ ws₂ work work₁ area area₁ xs ys : List ℕ} (ps qs : List (List ℕ)) → flatten ps ≡ flatten qs
+    → Session n ws work [] ps ws₁ work₁ xs → Session n ws area [] qs ws₂ area₁ ys → SameRun ws₁ ws₂ xs ys
+same-answers {n} {ws} {ws₂ = ws₂} {area = area} {area₁ = area₁} {ys = ys} ps qs same one two =
+    runs-alike (session-answers ps one) (subst (λ (bytes : List ℕ). Runs n ws area (ordersOf bytes) ws₂ area₁ ys) (sym same) (session-answers qs two))
     (self ws)
 
 -- ---- the contracts determine what comes back, the bytes and the queue
@@ -72,8 +73,8 @@ pub record Agree (ws vs out out′ : List ℕ) (r s : Written) : Type 0 where
   pub buffers : out ≡ out′
   pub alike : Alike (lentOf ws) (lentOf vs)
 
-pub served-agrees : {work : ℕ} {ws ws₁ ws₂ : List ℕ} {reads : List (Back Order)} {out out₁ out₂ : List ℕ} {r s : Written}
-    → Served work ws ws₁ reads out out₁ r → Served work ws ws₂ reads out out₂ s → Agree ws₁ ws₂ out₁ out₂ r s
+pub served-agrees : {n : ℕ} {ws ws₁ ws₂ work work₁ area area₁ : List ℕ} {reads : List (Back Order)} {out out₁ out₂ : List ℕ} {r s : Written}
+    → Served n ws ws₁ work work₁ reads out out₁ r → Served n ws ws₂ area area₁ reads out out₂ s → Agree ws₁ ws₂ out₁ out₂ r s
 served-agrees {ws = ws} {ws₂ = ws₂} {reads = reads} {out = out} one two =
     elim (decLt (length out) (27 * length reads)) [
       | yes h ↦
@@ -81,7 +82,7 @@ served-agrees {ws = ws} {ws₂ = ws₂} {reads = reads} {out = out} one two =
           let y = two .short h in
           record {
             answers = x .0 ∙ sym (y .0);
-            buffers = x .2 ∙ sym (y .2);
+            buffers = x .3 ∙ sym (y .3);
             alike = subst (λ (l : List ℕ). Alike (lentOf l) (lentOf ws₂)) (sym (x .1)) (subst (λ (l : List ℕ). Alike (lentOf ws) (lentOf l)) (sym (y .1)) (self ws));
           }
       | no g ↦
@@ -105,8 +106,8 @@ pub record RanAlike (ws₁ ws₂ out₁ out₂ k₁ k₂ : List ℕ) (i j n m : 
   pub buffers : out₁ ≡ out₂
   pub alike : Alike (lentOf ws₁) (lentOf ws₂)
 
-module _ {work : ℕ} {ws k piece : List ℕ} {at : ℕ} {out : List ℕ} where
-  not-before : {ws₁ ws₂ out₁ out₂ k₁ k₂ : List ℕ} {i j n m : ℕ} → PieceRan work ws ws₁ k piece at out out₁ k₁ i n → NoMore piece i out n → PieceRan work ws ws₂ k piece at out out₂ k₂ j m → i < j → ⊥
+module _ {size : ℕ} {ws k piece : List ℕ} {at : ℕ} {out : List ℕ} where
+  not-before : {ws₁ ws₂ work work₁ area area₁ out₁ out₂ k₁ k₂ : List ℕ} {i j n m : ℕ} → PieceRan size ws ws₁ work work₁ k piece at out out₁ k₁ i n → NoMore piece i out n → PieceRan size ws ws₂ area area₁ k piece at out out₂ k₂ j m → i < j → ⊥
   not-before {i = i} one (inl over) two h =
       elim (decLt at (length piece)) [
         | yes g ↦ omega (arith, two .within (omega arith))
@@ -114,7 +115,7 @@ module _ {work : ℕ} {ws k piece : List ℕ} {at : ℕ} {out : List ℕ} where
       ]
   not-before {i = i} one (inr full) two h = omega (arith, two .room i (one .forth) h, one .count, runs-long (one .run))
 
-  same-place : {ws₁ ws₂ out₁ out₂ k₁ k₂ : List ℕ} {i j n m : ℕ} → PieceRan work ws ws₁ k piece at out out₁ k₁ i n → NoMore piece i out n → PieceRan work ws ws₂ k piece at out out₂ k₂ j m → NoMore piece j out m → i ≡ j
+  same-place : {ws₁ ws₂ work work₁ area area₁ out₁ out₂ k₁ k₂ : List ℕ} {i j n m : ℕ} → PieceRan size ws ws₁ work work₁ k piece at out out₁ k₁ i n → NoMore piece i out n → PieceRan size ws ws₂ area area₁ k piece at out out₂ k₂ j m → NoMore piece j out m → i ≡ j
   same-place {i = i} {j = j} one p two q =
       elim (decLt i j) [
         | yes h ↦ absurd (not-before one p two h)
@@ -125,11 +126,11 @@ module _ {work : ℕ} {ws k piece : List ℕ} {at : ℕ} {out : List ℕ} where
             ]
       ]
 
-  pub ran-agrees : {ws₁ ws₂ out₁ out₂ k₁ k₂ : List ℕ} {i j n m : ℕ} → PieceRan work ws ws₁ k piece at out out₁ k₁ i n → NoMore piece i out n → PieceRan work ws ws₂ k piece at out out₂ k₂ j m → NoMore piece j out m
+  pub ran-agrees : {ws₁ ws₂ work work₁ area area₁ out₁ out₂ k₁ k₂ : List ℕ} {i j n m : ℕ} → PieceRan size ws ws₁ work work₁ k piece at out out₁ k₁ i n → NoMore piece i out n → PieceRan size ws ws₂ area area₁ k piece at out out₂ k₂ j m → NoMore piece j out m
       → RanAlike ws₁ ws₂ out₁ out₂ k₁ k₂ i j n m
-  ran-agrees {ws₂ = ws₂} {i = i} {j = j} {n = n} {m = m} one p two q =
+  ran-agrees {ws₂ = ws₂} {area = area} {area₁ = area₁} {i = i} {j = j} {n = n} {m = m} one p two q =
       let places : i ≡ j = same-place one p two q in
-      let run : Runs work ws (ordersFrom k (between at i piece)) ws₂ (two .bytes) = subst (λ (l : ℕ). Runs work ws (ordersFrom k (between at l piece)) ws₂ (two .bytes)) (sym places) (two .run) in
+      let run : Runs size ws area (ordersFrom k (between at i piece)) ws₂ area₁ (two .bytes) = subst (λ (l : ℕ). Runs size ws area (ordersFrom k (between at l piece)) ws₂ area₁ (two .bytes)) (sym places) (two .run) in
       let z = runs-alike (one .run) run (self ws) in
       let written : n ≡ m = one .count ∙ ap length (z .bytes) ∙ sym (two .count) in
       record {

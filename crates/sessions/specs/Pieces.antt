@@ -8,10 +8,10 @@ use Rattle.lines.specs.Cutter.{keptAfter, ordersFrom, lastOf}
 use Rattle.sessions.specs.Runs.{Runs}
 
 -- pieces one after the other, then the last line; k is what is kept of the line so far
-pub data Session (work : ℕ) : List ℕ → List ℕ → List (List ℕ) → List ℕ → List ℕ → Type 0 where
-  finished : (ws k ws′ bytes : List ℕ) → Runs work ws (lastOf k) ws′ bytes → Session work ws k [] ws′ bytes
-  then-piece : (ws k piece next ws′ bytes more : List ℕ) (pieces : List (List ℕ)) → Runs work ws (ordersFrom k piece) next bytes
-      → Session work next (keptAfter k piece) pieces ws′ more → Session work ws k (piece ∷ pieces) ws′ (bytes ++ more)
+pub data Session (n : ℕ) : List ℕ → List ℕ → List ℕ → List (List ℕ) → List ℕ → List ℕ → List ℕ → Type 0 where
+  finished : (ws work k ws′ work′ bytes : List ℕ) → Runs n ws work (lastOf k) ws′ work′ bytes → Session n ws work k [] ws′ work′ bytes
+  then-piece : (ws work k piece next left ws′ work′ bytes more : List ℕ) (pieces : List (List ℕ)) → Runs n ws work (ordersFrom k piece) next left bytes
+      → Session n next left (keptAfter k piece) pieces ws′ work′ more → Session n ws work k (piece ∷ pieces) ws′ work′ (bytes ++ more)
 
 -- the same length, link number, counters and entries of every buffer, and both books sound or neither
 pub record Alike (a b : rules.Lent) : Type 0 where

@@ -4,6 +4,7 @@ use mathlib.Core.Logic.{_⊎_}
 use mathlib.Core.List.{List, [], _∷_, _++_}
 use Prim.Native.Nat.{ℕ, _+_, _*_, _≤_, _<_}
 use lib.ListN.{length, take, drop}
+use Rattle.rules.specs.declared.Answer.{Answer}
 use Rattle.rules.specs.declared.Answer.the-variants.{NotAFrame}
 use Rattle.rules.specs.Answers.{numberOf}
 use Rattle.rules.specs.Calls as rules
@@ -18,7 +19,7 @@ use Rattle.frames.specs.declared.Written.the-variants.{Bytes, Refused}
 use Rattle.lines.specs.Lines.{between}
 use Rattle.lines.specs.Cutter.{keptAfter, ordersFrom}
 use Rattle.buffers.specs.Format.{lentOf}
-use Rattle.queue.specs.Calls.{Called}
+use Rattle.queue.specs.Calls.{Called, Besides}
 
 -- the rules' order of a frame's
 abbrev pub asked : Order → orders.Order
@@ -49,41 +50,47 @@ answerOf o = answerLine (numberOf (o .answer)) (o .word) (o .steps)
 abbrev pub After : List ℕ → List ℕ → rules.Outcome → Type 0
 After ws ws′ o = Called ws ws′ o (o .answer) (o .word) (o .steps) (o .packed)
 
--- lines as they were read, answered one after the other: the array before, the array behind the last, and the answers' bytes, in order
-pub data Runs (work : ℕ) : List ℕ → List (Back Order) → List ℕ → List ℕ → Type 0 where
-  ends : (ws : List ℕ) → Runs work ws [] ws []
-  goes : (ws next ws′ : List ℕ) (read : Back Order) (reads : List (Back Order)) (bytes : List ℕ) → After ws next (lineCall work read (lentOf ws))
-      → Runs work next reads ws′ bytes → Runs work ws (read ∷ reads) ws′ (answerOf (lineCall work read (lentOf ws)) ++ bytes)
+-- array and work area after a line that was answered so: what its order leaves of them; a line that is no frame leaves both as they were
+abbrev pub Left : List Order → (ws ws′ work work′ : List ℕ) → Answer → Type 0
+Left [] ws ws′ work work′ answer = (ws′ ≡ ws) × (work′ ≡ work)
+Left (o ∷ os) ws ws′ work work′ answer = Besides (asked o) ws ws′ work work′ answer
+
+-- lines as they were read, answered one after the other with n words of work area: array and work area before, both behind the last, and the answers' bytes, in order
+pub data Runs (n : ℕ) : List ℕ → List ℕ → List (Back Order) → List ℕ → List ℕ → List ℕ → Type 0 where
+  ends : (ws work : List ℕ) → Runs n ws work [] ws work []
+  goes : (ws work next left ws′ work′ : List ℕ) (read : Back Order) (reads : List (Back Order)) (bytes : List ℕ) → After ws next (lineCall n read (lentOf ws))
+      → Left (read .values) ws next work left (lineCall n read (lentOf ws) .answer) → Runs n next left reads ws′ work′ bytes
+      → Runs n ws work (read ∷ reads) ws′ work′ (answerOf (lineCall n read (lentOf ws)) ++ bytes)
 
 -- the answers stand at the start of a buffer, and no byte behind them has changed
-pub record Filled (work : ℕ) (ws ws′ : List ℕ) (reads : List (Back Order)) (out out′ : List ℕ) (r : Written) : Type 0 where
+pub record Filled (n : ℕ) (ws ws′ work work′ : List ℕ) (reads : List (Back Order)) (out out′ : List ℕ) (r : Written) : Type 0 where
   pub bytes : List ℕ
-  pub run : Runs work ws reads ws′ bytes
+  pub run : Runs n ws work reads ws′ work′ bytes
   pub count : r ≡ Bytes (length bytes)
   pub after : out′ ≡ bytes ++ drop (length bytes) out
 
 -- where there is room; else nothing is done and nothing is written
-pub record Served (work : ℕ) (ws ws′ : List ℕ) (reads : List (Back Order)) (out out′ : List ℕ) (r : Written) : Type 0 where
-  pub room : 27 * length reads ≤ length out → Filled work ws ws′ reads out out′ r
-  pub short : length out < 27 * length reads → (r ≡ Refused) × (ws′ ≡ ws) × (out′ ≡ out)
+pub record Served (n : ℕ) (ws ws′ work work′ : List ℕ) (reads : List (Back Order)) (out out′ : List ℕ) (r : Written) : Type 0 where
+  pub room : 27 * length reads ≤ length out → Filled n ws ws′ work work′ reads out out′ r
+  pub short : length out < 27 * length reads → (r ≡ Refused) × (ws′ ≡ ws) × (work′ ≡ work) × (out′ ≡ out)
 
 -- the answers stand in a buffer from one place to another, and no byte around them has changed
-pub record ServedAt (work : ℕ) (ws ws′ : List ℕ) (reads : List (Back Order)) (out out′ : List ℕ) (at end : ℕ) : Type 0 where
+pub record ServedAt (n : ℕ) (ws ws′ work work′ : List ℕ) (reads : List (Back Order)) (out out′ : List ℕ) (at end : ℕ) : Type 0 where
   pub bytes : List ℕ
-  pub run : Runs work ws reads ws′ bytes
+  pub run : Runs n ws work reads ws′ work′ bytes
   pub count : end ≡ at + length bytes
   pub inside : end ≤ length out
   pub after : out′ ≡ take at out ++ (bytes ++ drop end out)
 
 -- the lines that end between two places of a piece, answered; k and k′ are what is kept of the line so far, before and behind; at every place before the last there was room for another answer
-pub record PieceRan (work : ℕ) (ws ws′ k piece : List ℕ) (at : ℕ) (out out′ k′ : List ℕ) (at′ written : ℕ) : Type 0 where
+pub record PieceRan (n : ℕ) (ws ws′ work work′ k piece : List ℕ) (at : ℕ) (out out′ k′ : List ℕ) (at′ written : ℕ) : Type 0 where
   pub forth : at ≤ at′
   pub within : at ≤ length piece → at′ ≤ length piece
   pub over : length piece ≤ at → at′ ≡ at
   pub room : (i : ℕ) → at ≤ i → i < at′ → 27 * length (ordersFrom k (between at i piece)) + 27 ≤ length out
   pub keeps : k′ ≡ keptAfter k (between at at′ piece)
   pub bytes : List ℕ
-  pub run : Runs work ws (ordersFrom k (between at at′ piece)) ws′ bytes
+  pub run : Runs n ws work (ordersFrom k (between at at′ piece)) ws′ work′ bytes
   pub count : written ≡ length bytes
   pub inside : written ≤ length out
   pub after : out′ ≡ bytes ++ drop written out

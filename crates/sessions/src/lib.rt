@@ -6,8 +6,8 @@ ghost use Rattle.frames.specs.Answers.{readBack};
 ghost use Rattle.lines.specs.Answers.{endedBack};
 ghost use Rattle.lines.specs.Cutter.{kept, lastOf};
 ghost use Rattle.buffers.specs.Format.{lentOf};
-ghost use Rattle.queue.specs.Calls.{Called};
-ghost use Rattle.sessions.specs.Runs.{orderCall, lineCall, Served, ServedAt, PieceRan, NoMore};
+ghost use Rattle.queue.specs.Calls.{Called, Besides};
+ghost use Rattle.sessions.specs.Runs.{asked, orderCall, lineCall, Left, Served, ServedAt, PieceRan, NoMore};
 use frames::Order;
 use frames::ReadFrame;
 use frames::Written;
@@ -24,6 +24,7 @@ const EIGHT: u64 = 4294967296;
 // Does an order.
 pub fn perform(a: &mut [u64], work: &mut [u64], order: Order) -> Outcome
     ensures { λ r. ⌜ Called (now (a .entry)) (now (a .exit)) (orderCall (length (now (work .entry))) order (lentOf (now (a .entry)))) (r .answer) (r .word) (r .steps) (r .packed) ⌝ }
+    ensures { λ r. ⌜ Besides (asked order) (now (a .entry)) (now (a .exit)) (now (work .entry)) (now (work .exit)) (r .answer) ⌝ }
 {
     match order {
         Order::Setup(links) => {
@@ -44,6 +45,7 @@ pub fn perform(a: &mut [u64], work: &mut [u64], order: Order) -> Outcome
 // Does what a line says; a line that is no frame changes nothing and is answered 10.
 pub fn perform_line(a: &mut [u64], work: &mut [u64], read: ReadFrame) -> Outcome
     ensures { λ r. ⌜ Called (now (a .entry)) (now (a .exit)) (lineCall (length (now (work .entry))) (readBack read) (lentOf (now (a .entry)))) (r .answer) (r .word) (r .steps) (r .packed) ⌝ }
+    ensures { λ r. ⌜ Left (readBack read .values) (now (a .entry)) (now (a .exit)) (now (work .entry)) (now (work .exit)) (r .answer) ⌝ }
 {
     match read {
         ReadFrame::Order(order) => perform(a, work, order),
@@ -58,7 +60,7 @@ pub fn perform_line(a: &mut [u64], work: &mut [u64], read: ReadFrame) -> Outcome
 
 // Answers a line at the start of a buffer; where there is no room for the answer nothing is done.
 pub fn answer(a: &mut [u64], work: &mut [u64], read: ReadFrame, out: &mut [u8]) -> Written
-    ensures { λ r. ⌜ Served (length (now (work .entry))) (now (a .entry)) (now (a .exit)) (readBack read ∷ []) (now (out .entry)) (now (out .exit)) r ⌝ }
+    ensures { λ r. ⌜ Served (length (now (work .entry))) (now (a .entry)) (now (a .exit)) (now (work .entry)) (now (work .exit)) (readBack read ∷ []) (now (out .entry)) (now (out .exit)) r ⌝ }
 {
     if out.len() < LINE {
         return Written::Refused;
@@ -72,7 +74,7 @@ pub fn answer(a: &mut [u64], work: &mut [u64], read: ReadFrame, out: &mut [u8]) 
 
 // The same for a line that may have ended.
 fn answer_ended(a: &mut [u64], work: &mut [u64], ended: Ended, out: &mut [u8]) -> Written
-    ensures { λ r. ⌜ Served (length (now (work .entry))) (now (a .entry)) (now (a .exit)) (endedBack ended) (now (out .entry)) (now (out .exit)) r ⌝ }
+    ensures { λ r. ⌜ Served (length (now (work .entry))) (now (a .entry)) (now (a .exit)) (now (work .entry)) (now (work .exit)) (endedBack ended) (now (out .entry)) (now (out .exit)) r ⌝ }
 {
     match ended {
         Ended::Line(read) => answer(a, work, read, out),
@@ -83,7 +85,7 @@ fn answer_ended(a: &mut [u64], work: &mut [u64], ended: Ended, out: &mut [u8]) -
 // The same from a place of the buffer on; answers the place behind what it wrote.
 fn answer_at(a: &mut [u64], work: &mut [u64], ended: Ended, out: &mut [u8], at: usize) -> usize
     requires { ⌜ at + 27 ≤ length (now out) ⌝ }
-    ensures { λ r. ⌜ ServedAt (length (now (work .entry))) (now (a .entry)) (now (a .exit)) (endedBack ended) (now (out .entry)) (now (out .exit)) at r ⌝ }
+    ensures { λ r. ⌜ ServedAt (length (now (work .entry))) (now (a .entry)) (now (a .exit)) (now (work .entry)) (now (work .exit)) (endedBack ended) (now (out .entry)) (now (out .exit)) at r ⌝ }
 {
     let end = at + LINE;
     match answer_ended(a, work, ended, &mut out[at..end]) {
@@ -108,7 +110,7 @@ pub fn run_piece(
     at: usize,
     out: &mut [u8],
 ) -> Ran
-    ensures { λ r. ⌜ PieceRan (length (now (work .entry))) (now (a .entry)) (now (a .exit)) (kept cutter) (now (piece .entry)) at (now (out .entry)) (now (out .exit)) (kept (r .cutter)) (r .at) (r .written) ⌝ }
+    ensures { λ r. ⌜ PieceRan (length (now (work .entry))) (now (a .entry)) (now (a .exit)) (now (work .entry)) (now (work .exit)) (kept cutter) (now (piece .entry)) at (now (out .entry)) (now (out .exit)) (kept (r .cutter)) (r .at) (r .written) ⌝ }
     ensures { λ r. ⌜ NoMore (now (piece .entry)) (r .at) (now (out .entry)) (r .written) ⌝ }
 {
     let mut so_far = cutter;
@@ -133,7 +135,7 @@ pub fn run_piece(
 
 // Answers the last line, which counts if it has at least one byte.
 pub fn finish(a: &mut [u64], work: &mut [u64], cutter: Cutter, out: &mut [u8]) -> Written
-    ensures { λ r. ⌜ Served (length (now (work .entry))) (now (a .entry)) (now (a .exit)) (lastOf (kept cutter)) (now (out .entry)) (now (out .exit)) r ⌝ }
+    ensures { λ r. ⌜ Served (length (now (work .entry))) (now (a .entry)) (now (a .exit)) (now (work .entry)) (now (work .exit)) (lastOf (kept cutter)) (now (out .entry)) (now (out .exit)) r ⌝ }
 {
     let ended = lines::finish(cutter);
     answer_ended(a, work, ended, out)

@@ -1,4 +1,4 @@
--- `fill` calls itself on its inputs' mergers; the number of the output rises at each call, so that what is left of the numbers falls.
+-- `fill` calls itself on its inputs' mergers; the height below falls at each call.
 use Prim.Native.Nat.{ℕ, _<_, _+_, _-_}
 use mathlib.Core.Path.{_≡_, refl, sym, ap, _∙_, subst}
 use mathlib.Core.Logic.{⊎-elim}
@@ -8,7 +8,7 @@ use borrow.Fn.PlainCycle.{Measures, is, falls, and}
 use Rattle.rules.specs.Entries.{wholeWord}
 use Rattle.rules.specs.Links.{k, first, capacity}
 use Rattle.buffers.specs.Format.{buffersOf}
-use Rattle.mergers.specs.Subtree.{subtree, firstInput, secondInput, secondLink}
+use Rattle.mergers.specs.Subtree.{subtree, heightBelow, firstInput, secondInput, secondLink}
 use Rattle.mergers.specs.Fills.{Did}
 use Rattle.mergers.proofs.TurnLaws.{refilled}
 use Rattle.mergers.proofs.FillLaws.{Filling}
@@ -27,7 +27,7 @@ use Rattle.mergers.proofs.+fill.{statement}
 use Rattle.mergers.proofs.+fill.Tie.{close}
 
 abbrev μ-fill : Measures 1 fill-kinds.ps ℕ
-μ-fill κs a = 61 - (first (a .1 .1 .0) + a .1 .1 .1 .0)
+μ-fill κs a = heightBelow (a .1 .0) (a .1 .1 .0) (a .1 .1 .1 .0)
 
 abbrev fill-at : ℕ → In 1 fill-kinds.ps
 fill-at t = and 1 fill-kinds.ps (is 1 fill-kinds.ps μ-fill t) fill.Pre
@@ -146,7 +146,7 @@ fill-fill-requires-2 t c κs = let g = began-at t (c .before .before .before .be
     let f = c .before .before .before .before .before .before .before .before .before .loop .inv in
     let a = first-at t (c .before .before .before .before) in
     let w = sym (c .before .before .wants-in2 .ensures) ∙ c .before .if4 .taken in
-    (omega (arith, two-falls g f a w, c .before .before .before .before .before .before .before .before .before .before .before .before .before .before .before .before .before .before .before .pre .0), two-can g f a w)
+    (omega (arith, two-falls g f a, c .before .before .before .before .before .before .before .before .before .before .before .before .before .before .before .before .before .before .before .pre .0), two-can g f a w)
 
 fill-sub-turn-steps : (t : ℕ) → fill-lts.Need-sub-turn-steps (claims t) (fill-at t) fill.Post fill-Inv-loop fill-μ-loop
 fill-sub-turn-steps t c = omega (arith, c .before .before .before .before .before .before .before .before .if2 .taken)

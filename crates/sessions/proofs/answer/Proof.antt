@@ -5,7 +5,7 @@ use Rattle.sessions.proofs.answer.Tie as tie
 use Rattle.sessions.proofs.RunLaws.{served-short, served-one}
 
 returns : tie.Need-returns
-returns c = served-short _ _ _ _ (omega arith)
+returns c = served-short _ _ _ _ _ (omega arith)
 
 perform-line-requires : tie.Need-perform-line-requires
 perform-line-requires c κs = search needs
@@ -29,7 +29,7 @@ same-length-3 : tie.Need-same-length-3
 same-length-3 c = search needs
 
 returns-2 : tie.Need-returns-2
-returns-2 c = served-one _ _ _ _ _ _ _ _ _ _ _ _ (omega arith) (c .before .before .before .before .before .before .before .before .before .before .perform-line .ensures) (c .before .before .before .before .before .number-of .ensures) (c .before .before .answer-line .ensures)
+returns-2 c = served-one _ _ _ _ _ _ _ _ _ _ _ _ _ _ (omega arith) (c .before .before .before .before .before .before .before .before .before .before .perform-line .ensures .0) (c .before .before .before .before .before .before .before .before .before .before .perform-line .ensures .1) (c .before .before .before .before .before .number-of .ensures) (c .before .before .answer-line .ensures)
 
 pub answer-spec : {M : Type 1} → statement M
 answer-spec =

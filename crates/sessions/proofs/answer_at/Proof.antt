@@ -23,7 +23,7 @@ enum-known-n : tie.Need-enum-known-n
 enum-known-n c = search needs
 
 add-result : tie.Need-add-result
-add-result c = omega (arith, part-count _ _ _ (c .before .before .before .before .before .before .before .before .before .before .before .before .before .before .before .before .args .ended) _ _ _ _ (c .before .before .before .before .before .before .before .before .before .before .before .before .before .before .before .before .pre) (c .before .before .before .before .before .before .before .before .before .answer-ended .ensures) _ (c .before .n .given .1))
+add-result c = omega (arith, part-count _ _ _ _ _ (c .before .before .before .before .before .before .before .before .before .before .before .before .before .before .before .before .args .ended) _ _ _ _ (c .before .before .before .before .before .before .before .before .before .before .before .before .before .before .before .before .pre) (c .before .before .before .before .before .before .before .before .before .answer-ended .ensures) _ (c .before .n .given .1))
 
 enum-told : tie.Need-enum-told
 enum-told c = search needs
@@ -38,7 +38,7 @@ same-length-3 : tie.Need-same-length-3
 same-length-3 c = search needs
 
 returns : tie.Need-returns
-returns c = part-served _ _ _ (c .before .before .before .before .before .before .before .before .before .before .before .before .before .before .before .before .args .ended) _ _ _ _ (c .before .before .before .before .before .before .before .before .before .before .before .before .before .before .before .before .pre) (c .before .before .before .before .before .before .before .before .before .answer-ended .ensures) _ (c .before .n .given .1)
+returns c = part-served _ _ _ _ _ (c .before .before .before .before .before .before .before .before .before .before .before .before .before .before .before .before .args .ended) _ _ _ _ (c .before .before .before .before .before .before .before .before .before .before .before .before .before .before .before .before .pre) (c .before .before .before .before .before .before .before .before .before .answer-ended .ensures) _ (c .before .n .given .1)
 
 same-length-4 : tie.Need-same-length-4
 same-length-4 c = search needs
@@ -50,7 +50,7 @@ same-length-6 : tie.Need-same-length-6
 same-length-6 c = search needs
 
 returns-2 : tie.Need-returns-2
-returns-2 c = part-refused _ _ _ (c .before .before .before .before .before .before .before .before .before .before .before .before .before .before .before .args .ended) _ _ _ _ (c .before .before .before .before .before .before .before .before .before .before .before .before .before .before .before .pre) (c .before .before .before .before .before .before .before .before .answer-ended .ensures) (c .enum-told .given .1)
+returns-2 c = part-refused _ _ _ _ _ (c .before .before .before .before .before .before .before .before .before .before .before .before .before .before .before .args .ended) _ _ _ _ (c .before .before .before .before .before .before .before .before .before .before .before .before .before .before .before .pre) (c .before .before .before .before .before .before .before .before .answer-ended .ensures) (c .enum-told .given .1)
 
 pub answer-at-spec : {M : Type 1} → statement M
 answer-at-spec =

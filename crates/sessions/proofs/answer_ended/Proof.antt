@@ -23,10 +23,10 @@ same-length-3 : tie.Need-same-length-3
 same-length-3 c = search needs
 
 returns : tie.Need-returns
-returns c = served-line _ _ _ (c .before .before .before .before .before .before .before .before .before .before .before .before .before .before .before .before .args .ended) _ _ _ _ (c .before .before .before .before .before .before .before .before .before .before .before .ended .given .1) (c .before .before .before .before .before .before .answer .ensures)
+returns c = served-line _ _ _ _ _ (c .before .before .before .before .before .before .before .before .before .before .before .before .before .before .before .before .args .ended) _ _ _ _ (c .before .before .before .before .before .before .before .before .before .before .before .ended .given .1) (c .before .before .before .before .before .before .answer .ensures)
 
 returns-2 : tie.Need-returns-2
-returns-2 c = served-none _ _ (c .before .before .before .before .before .args .ended) _ (c .enum-told .given .1)
+returns-2 c = served-none _ _ _ (c .before .before .before .before .before .args .ended) _ (c .enum-told .given .1)
 
 pub answer-ended-spec : {M : Type 1} → statement M
 answer-ended-spec =

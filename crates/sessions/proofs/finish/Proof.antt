@@ -19,7 +19,7 @@ same-length-3 : tie.Need-same-length-3
 same-length-3 c = search needs
 
 returns : tie.Need-returns
-returns c = served-last _ _ _ (c .before .before .before .before .before .before .before .before .before .before .finish .result) _ _ _ _ (c .before .before .before .before .before .before .before .before .before .before .finish .ensures) (c .before .before .before .before .before .before .answer-ended .ensures)
+returns c = served-last _ _ _ _ _ (c .before .before .before .before .before .before .before .before .before .before .finish .result) _ _ _ _ (c .before .before .before .before .before .before .before .before .before .before .finish .ensures) (c .before .before .before .before .before .before .answer-ended .ensures)
 
 pub finish-spec : {M : Type 1} → statement M
 finish-spec =

@@ -12,13 +12,13 @@ use Rattle.sessions.proofs.run_piece.Tie as tie
 
 abbrev Inv-loop : tie.InvT-loop
 Inv-loop a₀ work₀ piece at out₀ so-far₀ i₀ written₀ a work out so-far i written =
-    PieceRan (length work₀) a₀ a (kept so-far₀) piece at out₀ out (kept so-far) i written × (length a ≡ length a₀) × (length work ≡ length work₀) × (length out ≡ length out₀)
+    PieceRan (length work₀) a₀ a work₀ work (kept so-far₀) piece at out₀ out (kept so-far) i written × (length a ≡ length a₀) × (length work ≡ length work₀) × (length out ≡ length out₀)
 
 abbrev μ-loop : tie.MeasureT-loop
 μ-loop a₀ work₀ piece at out₀ so-far₀ i₀ written₀ a work out so-far i written = length piece - i
 
 loop-holds : tie.Need-loop-holds Inv-loop μ-loop
-loop-holds c = (ran-starts _ _ _ _ _ _, refl, refl, refl)
+loop-holds c = (ran-starts _ _ _ _ _ _ _, refl, refl, refl)
 
 sub-if1 : tie.Need-sub-if1 Inv-loop μ-loop
 sub-if1 c = omega (arith, c .before .loop .inv .0 .inside)
@@ -33,7 +33,7 @@ loop-less : tie.Need-loop-less Inv-loop μ-loop
 loop-less c = omega (arith, ran-further _ _ _ (c .before .before .before .before .before .before .before .before .before .before .before .next-line .result) (c .before .before .before .before .before .before .before .before .before .before .before .next-line .ensures) (omega arith))
 
 loop-again : tie.Need-loop-again Inv-loop μ-loop
-loop-again c = (ran-on _ _ _ _ _ _ _ _ _ _ _ _ _ _ _ (c .before .before .before .before .before .before .before .before .before .before .before .before .before .before .loop .inv .0) (c .before .before .before .before .before .before .before .before .before .before .before .next-line .result) (c .before .before .before .before .before .before .before .before .before .before .before .next-line .ensures) (c .before .before .before .before .before .before .before .before .before .before .before .before .before .before .loop .inv .2) (c .before .before .before .before .before .before .answer-at .ensures) (omega arith) (omega (arith, c .before .before .before .before .before .before .before .before .before .before .before .before .before .before .loop .inv .0 .inside, c .before .before .before .before .before .before .before .before .before .before .before .before .before .before .loop .inv .3)), omega arith, omega arith, omega arith)
+loop-again c = (ran-on _ _ _ _ _ _ _ _ _ _ _ _ _ _ _ _ _ _ (c .before .before .before .before .before .before .before .before .before .before .before .before .before .before .loop .inv .0) (c .before .before .before .before .before .before .before .before .before .before .before .next-line .result) (c .before .before .before .before .before .before .before .before .before .before .before .next-line .ensures) (c .before .before .before .before .before .before .before .before .before .before .before .before .before .before .loop .inv .2) (c .before .before .before .before .before .before .answer-at .ensures) (omega arith) (omega (arith, c .before .before .before .before .before .before .before .before .before .before .before .before .before .before .loop .inv .0 .inside, c .before .before .before .before .before .before .before .before .before .before .before .before .before .before .loop .inv .3)), omega arith, omega arith, omega arith)
 
 same-length : tie.Need-same-length Inv-loop μ-loop
 same-length c = omega arith
