@@ -8,3 +8,4 @@ pub mod TreeLaws
 pub mod Exact
 pub mod FreshLaws
 pub mod CounterLaws
+pub mod AgreeLaws

@@ -6,8 +6,7 @@ use Prim.Native.Nat.{ℕ}
 use Rattle.rules.specs.declared.Answer.{Answer}
 use Rattle.rules.specs.Answers.{isDone, numberOf}
 use Rattle.rules.specs.Calls as rules
-use Rattle.queue.specs.Calls.{Called}
-use Rattle.queue.specs.Calls.{WorkKept}
+use Rattle.queue.specs.Calls.{Called, WorkKept}
 use Rattle.queue.proofs.CheckLaws.{not-done}
 use Rattle.gorgalhut.specs.Answered.{Answered, WorkLeft}
 

@@ -1,3 +1,4 @@
 pub mod AnsweredLaws
 pub mod NumberedLaws
 pub mod FramedLaws
+pub mod AgreeLaws

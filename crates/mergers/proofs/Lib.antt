@@ -6,3 +6,4 @@ pub mod MoveLaws
 pub mod BoundLaws
 pub mod FillLaws
 pub mod WalkLaws
+pub mod AgreeLaws

@@ -5,3 +5,4 @@ pub mod AlongLaws
 pub mod RefillLaws
 pub mod LayOutLaws
 pub mod CallLaws
+pub mod AgreeLaws

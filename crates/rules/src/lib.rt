@@ -13,9 +13,6 @@ impl Link {
     // The most links that a queue has.
     pub const MOST: usize = 4;
 
-    // The buffers of a queue of that many links.
-    pub const BUFFERS: usize = 61;
-
     // The words of the book, and the slots of the insertion buffer I behind it.
     pub const BOOK: usize = 256;
 
