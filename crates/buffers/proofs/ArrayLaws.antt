@@ -1,6 +1,6 @@
 -- What the words hold. A change that concerns one buffer leaves every other buffer's entries, the counters and all words past the stated length alone.
 use mathlib.Core.Path.{_≡_, refl, sym, ap, _∙_, subst}
-use mathlib.Core.Logic.{_≢_}
+use mathlib.Core.Logic.{_≢_, inl, inr}
 use native.Mathlib.Decide.{ℕ-discrete}
 use Prim.Native.Nat.{ℕ, zero, suc, _+_, _*_, _-_, _/_, _%_, _≤_, _<_, min}
 use native.Mathlib.Nat.{add-zero, add-suc, suc-add, zero-add, le-of-suc-le-suc, not-suc-le-zero}
@@ -8,10 +8,10 @@ use native.Mathlib.Omega.{arith}
 use mathlib.Core.List.{List, [], _∷_, _++_, map}
 use lib.ListN.{length, getD, take, drop, set, length-set, length-take, length-drop, length-append, List·getD-append}
 use lib.Seq.{getD-take, getD-drop, ext-getD, getD-set-same, getD-set-other, drop-drop, take-take}
-use Rattle.rules.specs.Links.{from, bufferCount, words, LinkNumber}
+use Rattle.rules.specs.Links.{from, bufferCount, words, LinkNumber, bookWords}
 use Rattle.buffers.specs.Slots.{capacityOf, base}
 use Rattle.buffers.specs.Format.{countIn, startIn, markIn, linksIn, counterIn, wordOf, countOf, startOf, markOf, many, headOf, bufferOf, buffersOf}
-use Rattle.buffers.specs.Post.{Inside, Has, Only, Now, Kept}
+use Rattle.buffers.specs.Post.{Inside, Has, Only, Now, Unused, Kept}
 use Rattle.buffers.proofs.SlotLaws.{apart, behind-book, not-both, in-words, few, small-capacity}
 
 -- ---- one value for each number
@@ -122,7 +122,7 @@ module _ (ws ws′ : List ℕ) (n : ℕ) (h : Has ws n) (only : Only ws ws′ n)
 -- ---- what is left alone
 
 pub kept-none : (ws : List ℕ) → Kept ws ws
-kept-none ws = record { long = refl; front = λ p h. refl; past = λ p h. refl }
+kept-none ws = record { long = refl; front = λ p h. refl; spare = λ p h g. refl; past = λ p h. refl }
 
 pub kept-links : {ws ws′ : List ℕ} → Kept ws ws′ → linksIn ws′ ≡ linksIn ws
 kept-links k = k .front 0 (omega arith)
@@ -131,13 +131,32 @@ pub kept-then : {ws ws′ ws″ : List ℕ} → Kept ws ws′ → Kept ws′ ws�
 kept-then {ws} {ws′} {ws″} k l = record {
   long = l .long ∙ k .long;
   front = λ p h. l .front p h ∙ k .front p h;
+  spare = λ p h g. l .spare p (rw (kept-links k) h) g ∙ k .spare p h g;
   past = λ p h. l .past p (rw (kept-links k) h) ∙ k .past p h;
 }
 
+-- so the words of the book that mean nothing stay
+pub kept-unused : {ws ws′ : List ℕ} → Kept ws ws′ → (p : ℕ) → Unused (linksIn ws) p → getD ws′ p 0 ≡ getD ws p 0
+kept-unused k p (inl low) = k .front p (low .1)
+kept-unused k p (inr high) = k .spare p (high .0) (high .1)
+
+-- they stand behind every counter that is used
+pub unused-behind : {links p : ℕ} (i : ℕ) → i ≤ links → i < 8 → Unused links p → i < p
+unused-behind i low small (inl u) = omega (arith, u .0)
+unused-behind i low small (inr u) = omega (arith, u .0)
+
+-- and inside the book
+pub unused-within : {links p : ℕ} → Unused links p → p < bookWords
+unfolding bookWords
+unused-within (inl u) = omega (arith, u .1)
+unused-within (inr u) = u .1
+
 pub only-kept : (ws ws′ : List ℕ) (n : ℕ) → Has ws n → Only ws ws′ n → Kept ws ws′
+unfolding bookWords
 only-kept ws ws′ n h only = record {
   long = only .long;
   front = λ p lt. only .outside p (omega arith) (omega (arith, h .behind));
+  spare = λ p h₁ h₂. only .outside p (omega (arith, h .below)) (omega (arith, h .behind));
   past = λ p lt. only .outside p (omega (arith, in-words (h .array .link) n (h .below), h .behind, h .small)) (omega (arith, in-words (h .array .link) n (h .below)));
 }
 

@@ -1,10 +1,10 @@
 -- What the accessors and writers ask and ensure, with a name for each part.
 use mathlib.Core.Path.{_≡_}
-use mathlib.Core.Logic.{_≢_}
+use mathlib.Core.Logic.{_≢_, _⊎_}
 use Prim.Native.Nat.{ℕ, _+_, _*_, _≤_, _<_}
 use mathlib.Core.List.{List, [], _∷_, _++_}
 use lib.ListN.{length, getD, set}
-use Rattle.rules.specs.Links.{LinkNumber, words}
+use Rattle.rules.specs.Links.{bookWords, bufferCount, LinkNumber, words}
 use Rattle.rules.specs.Tree.{Buffers}
 use Rattle.buffers.specs.Slots.{base, capacityOf}
 use Rattle.buffers.specs.Format.{linksIn, wordOf, countOf, startOf, markOf, many, bufferOf, buffersOf}
@@ -36,10 +36,15 @@ pub record Now (ws ws′ : List ℕ) (n : ℕ) (es : List ℕ) : Type 0 where
   pub only : Only ws ws′ n
   pub state : buffersOf ws′ ≡ set (buffersOf ws) n es
 
+-- the book's words that mean nothing in a queue of so many links: counters and buffer words of links behind it, and those outside the format
+abbrev pub Unused : ℕ → ℕ → Type 0
+Unused links p = ((links < p) × (p < 8)) ⊎ ((8 + bufferCount links ≤ p) × (p < bookWords))
+
 -- what a change of buffers leaves alone: the length, the link number and the counters, and all words past the stated length
 pub record Kept (ws ws′ : List ℕ) : Type 0 where
   pub long : length ws′ ≡ length ws
   pub front : (p : ℕ) → p < 8 → getD ws′ p 0 ≡ getD ws p 0
+  pub spare : (p : ℕ) → 8 + many ws ≤ p → p < bookWords → getD ws′ p 0 ≡ getD ws p 0
   pub past : (p : ℕ) → words (linksIn ws) ≤ p → getD ws′ p 0 ≡ getD ws p 0
 
 -- what the writers ask beside a buffer: entries to drop, room to grow, room from the first slot on, nothing in it

@@ -13,6 +13,7 @@ use Rattle.rules.specs.Examples.{insertOf, takeIt, lookAt, heldNow, auditIt, ca
 use Rattle.rules.proofs.EntryOrder.{Earlier}
 use Rattle.rules.proofs.History.{packings-bound}
 use Rattle.buffers.specs.Format.{linksIn, lentOf}
+use Rattle.buffers.specs.Post.{Unused}
 use Rattle.queue.proofs.AgreeLaws.{Agree}
 use Rattle.tally.specs.Day.{nothing, plusEach}
 use Rattle.tally.specs.Sums.{Within}
@@ -43,6 +44,10 @@ module _ (ws ws′ : List ℕ) (c : Call) (made : Made ws c ws′) where
   -- "every call .. stays inside the lent memory": "Words past the stated length are never touched."
   pub inside-the-lent : (length ws′ ≡ length ws) × ((p : ℕ) → words (linksIn ws′) ≤ p → getD ws′ p 0 ≡ getD ws p 0)
   inside-the-lent = (made .called .long, made .called .past)
+
+  -- nor is a word of the book that means nothing: the box may use it
+  pub unused-untouched : (p : ℕ) → Unused (linksIn ws′) p → getD ws′ p 0 ≡ getD ws p 0
+  unused-untouched = made .called .unused
 
   -- and of the work area none past H
   pub inside-the-area : (length (made .left) ≡ length (made .area)) × ((p : ℕ) → most (linksIn ws) ≤ p → getD (made .left) p 0 ≡ getD (made .area) p 0)

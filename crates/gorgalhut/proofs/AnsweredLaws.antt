@@ -17,6 +17,7 @@ answered ws ws′ o answer number word steps packed called number-of = record {
   word-is = called .word-is;
   steps-are = called .steps-are;
   past = called .past;
+  unused = called .unused;
   refused = λ no. called .refused (ap isDone (called .answer-is) ∙ no);
   queue-is = λ yes. called .queue-is (ap isDone (called .answer-is) ∙ yes);
   sound-is = λ yes. called .sound-is (ap isDone (called .answer-is) ∙ yes);

@@ -10,13 +10,15 @@ use Rattle.rules.specs.Answers.{isDone, numberOf}
 use Rattle.rules.specs.Book.{sound}
 use Rattle.rules.specs.Calls as rules
 use Rattle.buffers.specs.Format.{linksIn, bookOf, lentOf}
+use Rattle.buffers.specs.Post.{Unused}
 
--- no word past the stated length changes; "Every refusal changes nothing; every accepted call leaves a book that keeps all book rules"
+-- no unused word of the book and no word past the stated length changes; "Every refusal changes nothing; every accepted call leaves a book that keeps all book rules"
 pub record Answered (ws ws′ : List ℕ) (o : rules.Outcome) (number word steps : ℕ) : Type 0 where
   pub number-is : number ≡ numberOf (o .answer)
   pub word-is : word ≡ o .word
   pub steps-are : steps ≡ o .steps
   pub past : (p : ℕ) → words (linksIn ws′) ≤ p → getD ws′ p 0 ≡ getD ws p 0
+  pub unused : (p : ℕ) → Unused (linksIn ws′) p → getD ws′ p 0 ≡ getD ws p 0
   pub refused : isDone (o .answer) ≡ false → ws′ ≡ ws
   pub queue-is : isDone (o .answer) ≡ true → rules.queueOf (lentOf ws′) ≡ o .queue
   pub sound-is : isDone (o .answer) ≡ true → sound (bookOf ws′) ≡ true

@@ -27,8 +27,8 @@ use Rattle.rules.proofs.BookLaws as rules
 use Rattle.rules.proofs.BookKept.{take-kept, look-kept}
 use Rattle.rules.proofs.Accepted.{Long, MayTake, take-cases}
 use Rattle.buffers.specs.Format.{linksIn, countOf, markOf, markIn, counterIn, many, bookOf, lentOf, buffersOf}
-use Rattle.buffers.specs.Post.{Inside, Kept}
-use Rattle.buffers.proofs.ArrayLaws.{has, kept-links}
+use Rattle.buffers.specs.Post.{Inside, Unused, Kept}
+use Rattle.buffers.proofs.ArrayLaws.{has, kept-links, kept-unused}
 use Rattle.buffers.proofs.SlotLaws.{some}
 use Rattle.buffers.proofs.RuleLaws.{sound-rules}
 use Rattle.buffers.proofs.Exact.{sound-inside, count-is, mark-is}
@@ -186,6 +186,7 @@ refused-called ws o x f e =
       packed-is = sym (ap (λ (z : Outcome). z .packed) e);
       long = refl;
       past = λ p h. refl;
+      unused = λ p u. refl;
       refused = λ g. refl;
       queue-is = λ g. absurd (unlike (sym g ∙ f));
       sound-is = λ g. absurd (unlike (sym g ∙ f));
@@ -202,10 +203,11 @@ told ws ws′ o x answer word steps packed a w s p z = rw (a, w, s, p) z
 
 -- "every accepted call leaves a book that keeps all book rules"
 pub accepted-called : (ws ws′ : List ℕ) (o accepted : Outcome) (word steps : ℕ) (packed : Bool) → o ≡ accepted → accepted .answer ≡ Done → word ≡ accepted .word → steps ≡ accepted .steps → packed ≡ accepted .packed
-    → queueOf (lentOf ws′) ≡ accepted .queue → sound (bookOf ws′) ≡ true → length ws′ ≡ length ws → ((p : ℕ) → words (linksIn ws′) ≤ p → getD ws′ p 0 ≡ getD ws p 0) → Called ws ws′ o Done word steps packed
-accepted-called ws ws′ o accepted word steps packed e a w s p q b long past =
+    → queueOf (lentOf ws′) ≡ accepted .queue → sound (bookOf ws′) ≡ true → length ws′ ≡ length ws → ((p : ℕ) → words (linksIn ws′) ≤ p → getD ws′ p 0 ≡ getD ws p 0)
+    → ((p : ℕ) → Unused (linksIn ws′) p → getD ws′ p 0 ≡ getD ws p 0) → Called ws ws′ o Done word steps packed
+accepted-called ws ws′ o accepted word steps packed e a w s p q b long past unused =
     subst (λ z. Called ws ws′ z Done word steps packed) (sym e)
-    record { answer-is = sym a; word-is = w; steps-are = s; packed-is = p; long = long; past = past; refused = λ g. absurd (unlike (sym (done-is ws) ∙ g)); queue-is = λ g. q; sound-is = λ g. b }
+    record { answer-is = sym a; word-is = w; steps-are = s; packed-is = p; long = long; past = past; unused = unused; refused = λ g. absurd (unlike (sym (done-is ws) ∙ g)); queue-is = λ g. q; sound-is = λ g. b }
 
 the-one : (found : Bool) (entry : ℕ) (out : List ℕ) → oneIf found entry ≡ out → (found ≡ false → entry ≡ 0) → entry ≡ theEntry out
 unfolding theEntry
@@ -270,6 +272,7 @@ module _ (ws : List ℕ) (x : Answer) (x-is : x ≡ firstFailing (takeChecks (le
           (sound-still ws′ (z .array) (z .kept) (z .marks) (z .mark-of-I) (z .fewer-in-I) (subst (rules.Kept 7) (sym after) k))
           (z .kept .long)
           (λ p h. z .kept .past p (rw (kept-links (z .kept)) at h))
+          (λ p u. kept-unused (z .kept) p (rw (kept-links (z .kept)) at u))
 
       pub look-called : (ws′ : List ℕ) (word steps : ℕ) → Did ws ws′ (linksFrom 1 l) (ready wholeWord (linksFrom 1 l) (buffersOf ws)) steps
           → word ≡ headIn (mergeStep wholeWord (entries (linksFrom 1 l) (buffersOf ws′)) (insertion (buffersOf ws′))) → Called ws ws′ (look (lentOf ws)) Done word steps false
@@ -295,6 +298,7 @@ module _ (ws : List ℕ) (x : Answer) (x-is : x ≡ firstFailing (takeChecks (le
           (sound-still ws′ (d .array) (d .kept) (d .marks) (ap markIn I-word) (rw I-word (omega arith)) (subst (rules.Kept 7) (sym after) k))
           (d .kept .long)
           (λ p h. d .kept .past p (rw (kept-links (d .kept)) at h))
+          (λ p u. kept-unused (d .kept) p (rw (kept-links (d .kept)) at u))
 
 -- ---- held and audit, and the checks of take and look
 
@@ -340,6 +344,7 @@ module _ (ws : List ℕ) (x : Answer) (x-is : x ≡ common ws) where
           (book-right ws (may-now .0) (may-now .1))
           refl
           (λ p h. refl)
+          (λ p u. refl)
 
       last-check : (b : Bool) → ltb 0 n ≡ b → firstFailing (takeChecks (lentOf ws)) ≡ elim b [ true ↦ Done | false ↦ NoneHeld ]
       unfolding firstFailing
@@ -371,6 +376,7 @@ module _ (ws : List ℕ) (x : Answer) (x-is : x ≡ common ws) where
           (book-right ws (may-now .0) (may-now .1))
           refl
           (λ p h. refl)
+          (λ p u. refl)
 
       -- "9 | order broken"
       pub order-broken : t ≡ false → Called ws ws (audit (lentOf ws)) OrderBroken 0 0 false

@@ -31,7 +31,7 @@ use Rattle.rules.proofs.InsertLaws.{now-kept, inserted-kept}
 use Rattle.rules.proofs.Accepted.{MayInsert, insert-call-cases}
 use Rattle.buffers.specs.Format.{linksIn, counterIn, markIn, many, bookOf, lentOf, bufferOf, buffersOf}
 use Rattle.buffers.specs.Post.{Inside, Has, Now, Kept, Word}
-use Rattle.buffers.proofs.ArrayLaws.{has, each-at, buffer-length, buffers-at, only-word, only-kept, kept-links}
+use Rattle.buffers.proofs.ArrayLaws.{has, each-at, buffer-length, buffers-at, only-word, only-kept, kept-links, kept-unused}
 use Rattle.mergers.proofs.FillLaws.{marks-less}
 use Rattle.paths.specs.Placing.{Placing}
 use Rattle.paths.proofs.SlotsLaws.{placing}
@@ -214,6 +214,7 @@ module _ (ws work : List ℕ) (entry : ℕ) where
             sound₂
             (z .long ∙ kept₁ .long)
             (λ p far. let same : words (linksIn ws₂) ≤ p = far in z .past p (rw (z .links) at far) ∙ kept₁ .past p (rw links₁ at (rw (z .links) at far)))
+            (λ p u. z .unused p (rw (z .links) at u) ∙ kept-unused kept₁ p (rw links₁ at (rw (z .links) at u)))
 
         pub work-kept : WorkKept (linksIn ws) Done work work₂
         unfolding isDone

@@ -1,12 +1,13 @@
 -- Setup: what its checks say, and the fresh book.
 use Prim.Native.Nat.{ℕ, zero, suc, _+_, _≤_, _<_}
 use mathlib.Core.Path.{_≡_, refl, sym, ap, _∙_, subst}
+use mathlib.Core.Logic.{inl, inr}
 use mathlib.Core.Bool.{Bool, true, false}
 use mathlib.Core.List.{List, [], _∷_, map}
 use native.Mathlib.Omega.{arith}
 use borrow.Author.Tests.{le-leb, lt-leb}
 use lib.Dec.{T, leb}
-use lib.ListN.{length, take, drop, replicate}
+use lib.ListN.{length, take, drop, replicate, getD}
 use Rattle.rules.specs.declared.Answer.{Answer}
 use Rattle.rules.specs.declared.Answer.the-variants.{Done, NoSuchLinks, ArrayShort}
 use Rattle.rules.specs.Answers.{isDone}
@@ -19,7 +20,7 @@ use Rattle.rules.proofs.Numbering.{tree-range}
 use Rattle.rules.proofs.BookLaws as rules
 use Rattle.rules.proofs.BookKept.{fresh-kept}
 use Rattle.buffers.specs.Format.{linksIn, countIn, markIn, wordOf, counterIn, many, bookOf, lentOf, bufferOf, buffersOf, headOf}
-use Rattle.buffers.specs.Post.{Inside}
+use Rattle.buffers.specs.Post.{Inside, Unused}
 use Rattle.buffers.proofs.SlotLaws.{words-end, behind-book, few, some}
 use Rattle.buffers.specs.Fresh.{CanBegin, Begun}
 use Rattle.queue.specs.Calls.{Called, SlotsKept}
@@ -31,6 +32,10 @@ each-one : {A : Type 0} (f : ℕ → A) (x : A) (i n : ℕ) → ((m : ℕ) → i
 unfolding from
 each-one f x i zero same = refl
 each-one f x i (suc n) same = λ p. same i (omega arith) (omega arith) p ∷ each-one f x (suc i) n (λ m low high. same m (omega arith) (omega arith)) p
+
+fresh-unused : (ws ws′ : List ℕ) (links : ℕ) → Begun ws ws′ links → (p : ℕ) → Unused links p → getD ws′ p 0 ≡ getD ws p 0
+fresh-unused ws ws′ links b p (inl u) = b .between p (u .0) (u .1)
+fresh-unused ws ws′ links b p (inr u) = b .behind p (u .0)
 
 module _ (ws ws′ : List ℕ) (links : ℕ) (can : CanBegin ws links) (b : Begun ws ws′ links) where
   word-zero : (n : ℕ) → n < many ws′ → wordOf ws′ n ≡ 0
@@ -110,6 +115,7 @@ module _ (ws : List ℕ) (links : ℕ) where
       (fresh-sound ws ws′ links can b)
       (b .long)
       (λ p h. b .behind p (omega (arith, words-end (fresh-inside ws ws′ links can b .link), behind-book (bufferCount (linksIn ws′)), few (can .link))))
+      (λ p u. fresh-unused ws ws′ links b p (rw (b .number) at u))
 
 -- "slots keep their words"
 pub slots-kept : (ws ws′ : List ℕ) (links : ℕ) → LinkNumber links → Begun ws ws′ links → SlotsKept ws ws′

@@ -11,8 +11,9 @@ use Rattle.rules.specs.Book.{sound}
 use Rattle.rules.specs.Calls as rules
 use Rattle.rules.specs.Examples.{Order, setupOf, insertOf, takeIt, lookAt, heldNow, auditIt}
 use Rattle.buffers.specs.Format.{linksIn, bookOf, lentOf}
+use Rattle.buffers.specs.Post.{Unused}
 
--- answer, word, steps and packing are the rules' own; no word past the stated length changes; "Every refusal changes nothing; every accepted call leaves a book that keeps all book rules"
+-- answer, word, steps and packing are the rules' own; no unused word of the book and no word past the stated length changes; "Every refusal changes nothing; every accepted call leaves a book that keeps all book rules"
 pub record Called (ws ws′ : List ℕ) (o : rules.Outcome) (answer : Answer) (word steps : ℕ) (packed : Bool) : Type 0 where
   pub answer-is : answer ≡ o .answer
   pub word-is : word ≡ o .word
@@ -20,6 +21,7 @@ pub record Called (ws ws′ : List ℕ) (o : rules.Outcome) (answer : Answer) (w
   pub packed-is : packed ≡ o .packed
   pub long : length ws′ ≡ length ws
   pub past : (p : ℕ) → words (linksIn ws′) ≤ p → getD ws′ p 0 ≡ getD ws p 0
+  pub unused : (p : ℕ) → Unused (linksIn ws′) p → getD ws′ p 0 ≡ getD ws p 0
   pub refused : isDone answer ≡ false → ws′ ≡ ws
   pub queue-is : isDone answer ≡ true → rules.queueOf (lentOf ws′) ≡ o .queue
   pub sound-is : isDone answer ≡ true → sound (bookOf ws′) ≡ true

@@ -113,6 +113,7 @@ after-called ws ws′ o answer word steps packed called = record {
   packed-is = refl;
   long = called .long;
   past = called .past;
+  unused = called .unused;
   refused = λ no. called .refused (ap isDone (called .answer-is) ∙ no);
   queue-is = λ yes. called .queue-is (ap isDone (called .answer-is) ∙ yes);
   sound-is = λ yes. called .sound-is (ap isDone (called .answer-is) ∙ yes);

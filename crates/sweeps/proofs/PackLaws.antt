@@ -28,7 +28,7 @@ use Rattle.buffers.specs.Format.{linksIn, counterIn, markIn, markOf, many, book
 use Rattle.buffers.specs.Post.{Kept}
 use Rattle.buffers.specs.Counters.{HasCounter, CounterPut}
 use Rattle.buffers.proofs.SlotLaws.{words-end, behind-book, some}
-use Rattle.buffers.proofs.ArrayLaws.{length-each, each-at, buffers-length, kept-links, kept-then}
+use Rattle.buffers.proofs.ArrayLaws.{length-each, each-at, buffers-length, kept-links, kept-then, kept-unused, unused-behind}
 use Rattle.buffers.proofs.CounterLaws.{has-counter, put-word, put-inside, put-buffers}
 use Rattle.mergers.specs.Fills.{MarksRight}
 use Rattle.runs.proofs.LayingLaws.{length-laid, laid-outside}
@@ -192,6 +192,7 @@ module _ {ws : List ℕ} {links : ℕ} {work : List ℕ} (h : CanPack ws links w
               mark-I = λ e. absurd (omega (arith, no-mark 0 (omega (arith, some (put-inside pack-counter c .link)))));
               long = c .long ∙ kept .long;
               past = λ p far. c .behind p (omega (arith, link .high, far, words-end (h .moves .can .array .link), behind-book (bufferCount (linksIn ws)))) ∙ kept .past p far;
+              unused = λ p n. c .behind p (unused-behind links (omega (arith, h .of)) (omega (arith, link .high)) n) ∙ kept-unused kept p n;
               work-long = pack-work-long;
               work-past = λ p far. work-past p (subst (λ l. most l ≤ p) (h .of) far);
             }

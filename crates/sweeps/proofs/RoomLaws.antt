@@ -75,6 +75,7 @@ module _ (ws work : List ℕ) (h : CanMakeRoom ws work) where
         mark-I = h .mark-I;
         long = refl;
         past = λ p far. refl;
+        unused = λ p u. refl;
         work-long = refl;
         work-past = λ p far. refl;
       }

@@ -32,7 +32,7 @@ use Rattle.buffers.specs.Format.{linksIn, counterIn, markIn, countOf, markOf, w
 use Rattle.buffers.specs.Post.{Inside}
 use Rattle.buffers.specs.Counters.{HasCounter, CounterPut}
 use Rattle.buffers.proofs.SlotLaws.{behind-book, in-words, some}
-use Rattle.buffers.proofs.ArrayLaws.{has, length-each, each-at, buffer-length, buffers-at, buffers-length, kept-links}
+use Rattle.buffers.proofs.ArrayLaws.{has, length-each, each-at, buffer-length, buffers-at, buffers-length, kept-links, kept-unused, unused-behind}
 use Rattle.buffers.proofs.CounterLaws.{has-counter, put-word, put-inside, put-buffers}
 use Rattle.mergers.specs.Fills.{MarksRight}
 use Rattle.mergers.proofs.FillLaws.{in-stands}
@@ -331,6 +331,7 @@ module _ (ws : List ℕ) (i : ℕ) (work : List ℕ) (h : CanSweep ws i work) wh
                     long = u .long ∙ f .kept .long ∙ t .kept .long;
                     past = λ x far. u .behind x (omega (arith, link .high, in-words (array .link) 0 (omega (arith, some (array .link))), behind-book 0))
                         ∙ f .kept .past x (rw (kept-links (t .kept)) far) ∙ t .kept .past x far;
+                    unused = λ x n. u .behind x (unused-behind i (h .there) (omega (arith, link .high)) n) ∙ kept-unused (f .kept) x (rw (kept-links (t .kept)) n) ∙ kept-unused (t .kept) x n;
                     work-long = work₂-long;
                     work-past = λ x far. ap (λ w. getD w x 0) laid₂ ∙ laid-outside work₁ count along x inside₁ (inr (omega (arith, t .all, both-fit)))
                         ∙ ap (λ w. getD w x 0) (t .out) ∙ laid-outside work 0 (z .out) x (omega (arith, both-fit, h .moves .room)) (inr (omega (arith, both-fit)));

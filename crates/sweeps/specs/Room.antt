@@ -10,7 +10,7 @@ use Rattle.rules.specs.Queue.{heldFrom}
 use Rattle.rules.specs.Insert.{Inserted, lowest, swept}
 use Rattle.rules.specs.Calls.{queueOf}
 use Rattle.buffers.specs.Format.{linksIn, counterIn, countOf, markOf, many, bookOf, bufferOf, buffersOf, lentOf}
-use Rattle.buffers.specs.Post.{Inside}
+use Rattle.buffers.specs.Post.{Inside, Unused}
 use Rattle.mergers.specs.Fills.{MarksRight}
 use Rattle.paths.specs.Refills.{Refilling}
 use Rattle.runs.specs.Promises.{stretch}
@@ -48,7 +48,7 @@ pub record CanMakeRoom (ws work : List ℕ) : Type 0 where
   pub mark-I : markOf ws 0 ≡ 1 → countOf ws 0 ≡ 0
   pub sweeps : lowest 1 (bookOf ws .counters) ≤ linksIn ws → CanSweep ws (lowest 1 (bookOf ws .counters)) work
 
--- the rules' outcome z; marks are right, and no word past the stated length changes, nor one of the work area past H
+-- the rules' outcome z; marks are right, and no unused word of the book changes, no word past the stated length, nor one of the work area past H
 pub record MadeRoom (ws ws′ : List ℕ) (z : Inserted) (work work′ : List ℕ) (steps : ℕ) : Type 0 where
   pub array : Inside ws′
   pub links : linksIn ws′ ≡ linksIn ws
@@ -58,5 +58,6 @@ pub record MadeRoom (ws ws′ : List ℕ) (z : Inserted) (work work′ : List �
   pub mark-I : markOf ws′ 0 ≡ 1 → countOf ws′ 0 ≡ 0
   pub long : length ws′ ≡ length ws
   pub past : (p : ℕ) → words (linksIn ws) ≤ p → getD ws′ p 0 ≡ getD ws p 0
+  pub unused : (p : ℕ) → Unused (linksIn ws) p → getD ws′ p 0 ≡ getD ws p 0
   pub work-long : length work′ ≡ length work
   pub work-past : (p : ℕ) → most (linksIn ws) ≤ p → getD work′ p 0 ≡ getD work p 0
