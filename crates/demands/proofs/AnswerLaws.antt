@@ -30,6 +30,7 @@ use Rattle.rules.proofs.History.{Fine, since-fine, since-ordered}
 use Rattle.buffers.specs.Format.{linksIn, bookOf, lentOf}
 use Rattle.buffers.proofs.Exact.{sound-inside}
 use Rattle.queue.proofs.BookLaws.{describes, shaped}
+use Rattle.queue.proofs.AgreeLaws.{the-answer}
 use Rattle.demands.specs.Histories.{Call, Made, accepted, History, since, links, putIn, takenOut, inserts, takes, times, StillHeld}
 use Rattle.demands.specs.Exact.{Enough, WorkEnough, Sound, Answers, no-place, full, insert-done, take-done, look-done, held-done, audit-done, none-to-take, none-to-see}
 use Rattle.rules.proofs.Tests.{truth}
@@ -47,7 +48,7 @@ module _ (ws ws′ : List ℕ) (c : Call) (made : Made ws c ws′) where
   pub made-exactly : (r : Answer) → (c .answer ≡ r → Answers (c .work) (lentOf ws) (c .order) r) × (Answers (c .work) (lentOf ws) (c .order) r → c .answer ≡ r)
   made-exactly r =
       let e = exactly (c .work) (lentOf ws) (c .order) r in
-      (λ is. e .0 (sym (made .called .answer-is) ∙ is), λ s. made .called .answer-is ∙ e .1 s)
+      (λ is. e .0 (sym (the-answer (made .called)) ∙ is), λ s. the-answer (made .called) ∙ e .1 s)
 
 -- what is left over has its place
 fits : (ws : List ℕ) (work : ℕ) (order : Order) → Sound work order (lentOf ws) → (entry : ℕ) → held (queueOf (lentOf ws)) < most (linksIn ws) → inserted entry (queueOf (lentOf ws)) .fits ≡ true
@@ -164,7 +165,7 @@ module _ {cs : List Call} {ws : List ℕ} (h : History cs ws) where
     held-counts is =
         let done : c .answer ≡ Done = told heldNow Done is (held-done (book-sound (c .work) heldNow tt)) in
         let same = ap (λ order. call (c .work) order (lentOf ws)) is in
-        let d = subst T (ap isDone (sym done ∙ made .called .answer-is ∙ ap (λ o. o .answer) same)) tt in
+        let d = subst T (ap isDone (sym done ∙ the-answer (made .called) ∙ ap (λ o. o .answer) same)) tt in
         let word : c .word ≡ held q = made .called .word-is ∙ ap (λ o. o .word) same ∙ held-word (lentOf ws) d in
         (done, omega (arith, number-held h))
 

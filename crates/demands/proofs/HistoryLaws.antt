@@ -21,6 +21,7 @@ use Rattle.rules.proofs.SinceCalls.{isInsert, insertsIn, goes-on}
 use Rattle.rules.proofs.SinceCalls as rules
 use Rattle.buffers.specs.Format.{bookOf, lentOf}
 use Rattle.queue.specs.Calls.{Called}
+use Rattle.queue.proofs.AgreeLaws.{the-answer}
 use Rattle.demands.specs.Histories.{Call, Made, accepted, isSetup, linksOf, begins, History, first, next, since, links, brought, handed, ifDone, putIn, takenOut, once, packings, steps}
 use Rattle.demands.proofs.CallLaws.{once-is, weightOf, moves, refusal-plain, setup-begun, fresh-weight}
 
@@ -38,7 +39,7 @@ begun : (order : Order) (work : ℕ) (ws ws′ : List ℕ) (answer : Answer) (wo
     → Called ws ws′ (call work order (lentOf ws)) answer word made-steps packed → Stands (linksOf order) [] [] 0 0 ws′
 unfolding call lentOf
 begun (setupOf l) work ws ws′ answer word made-steps packed e made =
-    let b = setup-begun (lentOf ws) l (subst T (sym e ∙ ap isDone (made .answer-is)) tt) in
+    let b = setup-begun (lentOf ws) l (subst T (sym e ∙ ap isDone (the-answer made)) tt) in
     let q = made .queue-is e ∙ b .queue in
     record {
       number = b .number;
@@ -97,7 +98,7 @@ module _ {l p t : ℕ} {ins outs : List ℕ} (ws ws′ : List ℕ) (c : Call) (h
   After b = Stands l (ifDone b (brought (c .order)) ++ ins) (ifDone b (handed (c .order) (c .word)) ++ outs) (once (c .packed) + p) (c .steps + t) ws′
 
   done-too : (b : Bool) → accepted c ≡ b → isDone (o .answer) ≡ b
-  done-too b e = ap isDone (sym (made .called .answer-is)) ∙ e
+  done-too b e = ap isDone (sym (the-answer (made .called))) ∙ e
 
   refused-after : accepted c ≡ false → After false
   refused-after e =

@@ -11,7 +11,7 @@ use Rattle.rules.specs.Calls as rules
 use Rattle.rules.specs.Examples.{Order, setupOf, insertOf, takeIt, lookAt, heldNow, auditIt, call}
 use Rattle.buffers.specs.Format.{linksIn, lentOf}
 use Rattle.queue.specs.Calls.{Called, SlotsKept, WorkKept, Besides}
-use Rattle.queue.proofs.AgreeLaws.{Agree, agree}
+use Rattle.queue.proofs.AgreeLaws.{the-answer, Agree, agree}
 use Rattle.demands.specs.Histories.{Call, Made, accepted}
 use Rattle.demands.proofs.CallLaws.{refusal-plain}
 
@@ -88,7 +88,7 @@ refused-besides auditIt ws ws′ area left answer e besides = besides .1
 
 pub refused-nothing : (ws ws′ : List ℕ) (c : Call) (made : Made ws c ws′) → accepted c ≡ false → Nothing ws ws′ (made .area) (made .left) c
 refused-nothing ws ws′ c made e =
-    let plain = refusal-plain (lentOf ws) (c .work) (c .order) (ap isDone (sym (made .called .answer-is)) ∙ e) in
+    let plain = refusal-plain (lentOf ws) (c .work) (c .order) (ap isDone (sym (the-answer (made .called))) ∙ e) in
     record {
       unchanged = made .called .refused e;
       area-unchanged = refused-besides (c .order) ws ws′ (made .area) (made .left) (c .answer) e (made .besides);

@@ -18,6 +18,7 @@ use Rattle.rules.proofs.Weight.{sumOf-ones, oneIf, timesOf}
 use Rattle.rules.proofs.EntryOrder.{Earlier, earlier-smaller}
 use Rattle.rules.proofs.History.{Fine, since-fine, since-ordered}
 use Rattle.buffers.specs.Format.{lentOf}
+use Rattle.queue.proofs.AgreeLaws.{the-answer}
 use Rattle.demands.specs.Histories.{Call, Made, accepted, isSetup, begins, History, first, next, since, links, brought, handed, ifDone, putIn, takenOut, times, StillHeld, Smallest}
 use Rattle.queue.proofs.CheckLaws.{unlike}
 use Rattle.demands.proofs.CallLaws.{once-is, held-is, timesHeld, LeastHeld, least-taken, least-seen}
@@ -98,7 +99,7 @@ module _ {cs : List Call} {ws : List ℕ} (h : History cs ws) where
     shown order is done least =
         let o = call (c .work) order a in
         let same = ap (λ order. call (c .work) order a) is in
-        let d : T (isDone (o .answer)) = subst T (sym done ∙ ap isDone (made .called .answer-is ∙ ap (λ o. o .answer) same)) tt in
+        let d : T (isDone (o .answer)) = subst T (sym done ∙ ap isDone (the-answer (made .called) ∙ ap (λ o. o .answer) same)) tt in
         subst (λ w. Smallest w (since cs)) (sym (made .called .word-is ∙ ap (λ o. o .word) same)) (smallest (o .word) (least d))
 
     pub smallest-taken : c .order ≡ takeIt → accepted c ≡ true → Smallest (c .word) (since cs)

@@ -14,6 +14,7 @@ use Rattle.tally.specs.Day.{tallyOf, nothing, plusEach, addedIfDone, added, upT
 use Rattle.tally.specs.Day as tally
 use Rattle.tally.specs.Sums.{Within}
 use Rattle.tally.specs.Told.{callOf}
+use Rattle.queue.proofs.AgreeLaws.{the-answer}
 use Rattle.demands.specs.Histories.{Call, Made, accepted, begins, History, first, next, since, brought, handed, ifDone, putIn, takenOut, inserts, takes, once, packings, steps}
 use Rattle.demands.specs.Tallies.{toldOf, tallyAfter, sums}
 use Rattle.demands.proofs.CallLaws.{refusal-plain, setup-steps, setup-unpacked, take-unpacked, look-unpacked, held-unpacked, audit-unpacked}
@@ -51,7 +52,7 @@ adds ws ws′ c made = go (accepted c) refl
         → (elim b as (λ b. Tally) [ true ↦ addedIfDone (callOf (c .order)) (c .steps) (c .packed) | false ↦ nothing ]) ≡ oneOf (c .order) b (c .word) (c .steps) (c .packed)
     go true e = done-adds (c .work) (lentOf ws) (c .order) (c .word) (c .steps) (c .packed) (made .called .steps-are) (made .called .packed-is)
     go false e =
-        let plain = refusal-plain (lentOf ws) (c .work) (c .order) (ap isDone (sym (made .called .answer-is)) ∙ e) in
+        let plain = refusal-plain (lentOf ws) (c .work) (c .order) (ap isDone (sym (the-answer (made .called))) ∙ e) in
         same refl refl (sym (made .called .steps-are ∙ plain .steps)) (sym (ap once (made .called .packed-is ∙ plain .packed)))
 
 -- ---- calls one after the other

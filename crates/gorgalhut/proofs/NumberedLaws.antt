@@ -5,14 +5,14 @@ use Prim.Native.Nat.{ℕ, _≤_, _<_}
 use native.Mathlib.Omega.{arith}
 use borrow.Author.Tests.{le-leb, lt-leb}
 use Rattle.rules.specs.declared.Answer.{Answer}
-use Rattle.rules.specs.declared.Answer.the-variants.{Done, NoSuchLinks, ArrayShort, WorkShort, BookBroken, Full, NoneHeld, DoorAbove, NoPlace, OrderBroken, NotAFrame}
-use Rattle.rules.specs.Answers.{numberOf}
+use Rattle.rules.specs.Answers.{numberOf, answerOf}
+use Rattle.rules.proofs.AnswerLaws.{answer-again, answer-few}
 use Rattle.tally.specs.declared.Call.{Call}
 use Rattle.tally.specs.declared.Call.the-variants.{Setup, Insert, Take, Look, Held, Audit}
 use Rattle.tally.specs.declared.Outcome.{Outcome}
 use Rattle.tally.specs.declared.Tally.{Tally}
 use Rattle.tally.specs.Day.{upToDate}
-use Rattle.gorgalhut.specs.Numbered.{callOf, callNumber, answerOf, named, tallied}
+use Rattle.gorgalhut.specs.Numbered.{callOf, callNumber, named, tallied}
 
 pub call-again : (c : Call) → callOf (callNumber c) ≡ c
 unfolding callOf
@@ -23,20 +23,6 @@ call-again Look = refl
 call-again Held = refl
 call-again Audit = refl
 
-pub answer-again : (a : Answer) → answerOf (numberOf a) ≡ a
-unfolding answerOf
-answer-again Done = refl
-answer-again NoSuchLinks = refl
-answer-again ArrayShort = refl
-answer-again WorkShort = refl
-answer-again BookBroken = refl
-answer-again Full = refl
-answer-again NoneHeld = refl
-answer-again DoorAbove = refl
-answer-again NoPlace = refl
-answer-again OrderBroken = refl
-answer-again NotAFrame = refl
-
 call-few : (c : Call) → callNumber c ≤ 5
 call-few Setup = omega arith
 call-few Insert = omega arith
@@ -44,19 +30,6 @@ call-few Take = omega arith
 call-few Look = omega arith
 call-few Held = omega arith
 call-few Audit = omega arith
-
-answer-few : (a : Answer) → numberOf a ≤ 10
-answer-few Done = omega arith
-answer-few NoSuchLinks = omega arith
-answer-few ArrayShort = omega arith
-answer-few WorkShort = omega arith
-answer-few BookBroken = omega arith
-answer-few Full = omega arith
-answer-few NoneHeld = omega arith
-answer-few DoorAbove = omega arith
-answer-few NoPlace = omega arith
-answer-few OrderBroken = omega arith
-answer-few NotAFrame = omega arith
 
 module _ (call answer : ℕ) where
   pub both-named : call ≤ 5 → answer ≤ 10 → named call answer ≡ true

@@ -4,7 +4,7 @@ use mathlib.Core.Logic.{_≢_}
 use mathlib.Core.Bool.{true, false}
 use mathlib.Core.List.{List}
 use Prim.Native.Nat.{ℕ, _≤_}
-use lib.ListN.{getD}
+use lib.ListN.{length, getD}
 use Rattle.rules.specs.Links.{most, words}
 use Rattle.rules.specs.Answers.{isDone, numberOf}
 use Rattle.rules.specs.Book.{sound}
@@ -17,6 +17,7 @@ pub record Answered (ws ws′ : List ℕ) (o : rules.Outcome) (number word steps
   pub number-is : number ≡ numberOf (o .answer)
   pub word-is : word ≡ o .word
   pub steps-are : steps ≡ o .steps
+  pub long : length ws′ ≡ length ws
   pub past : (p : ℕ) → words (linksIn ws′) ≤ p → getD ws′ p 0 ≡ getD ws p 0
   pub unused : (p : ℕ) → Unused (linksIn ws′) p → getD ws′ p 0 ≡ getD ws p 0
   pub refused : isDone (o .answer) ≡ false → ws′ ≡ ws
@@ -25,5 +26,6 @@ pub record Answered (ws ws′ : List ℕ) (o : rules.Outcome) (number word steps
 
 -- an insert's work area: "Words of the work area past H are never touched", and a refusal changes none
 pub record WorkLeft (links number : ℕ) (work work′ : List ℕ) : Type 0 where
+  pub long : length work′ ≡ length work
   pub past : (p : ℕ) → most links ≤ p → getD work′ p 0 ≡ getD work p 0
   pub refused : number ≢ 0 → work′ ≡ work

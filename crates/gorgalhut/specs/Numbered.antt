@@ -3,8 +3,7 @@ use Prim.Native.Nat.{ℕ}
 use mathlib.Core.Bool.{Bool, cond}
 use lib.Dec.{eqb, leb}
 use Rattle.rules.specs.Tests.{_and_}
-use Rattle.rules.specs.declared.Answer.{Answer}
-use Rattle.rules.specs.declared.Answer.the-variants.{Done, NoSuchLinks, ArrayShort, WorkShort, BookBroken, Full, NoneHeld, DoorAbove, NoPlace, OrderBroken, NotAFrame}
+use Rattle.rules.specs.Answers.{answerOf}
 use Rattle.tally.specs.declared.Call.{Call}
 use Rattle.tally.specs.declared.Call.the-variants.{Setup, Insert, Take, Look, Held, Audit}
 use Rattle.tally.specs.declared.Tally.{Tally}
@@ -27,21 +26,6 @@ callNumber Take = 2
 callNumber Look = 3
 callNumber Held = 4
 callNumber Audit = 5
-
--- the numbers that come back
-unfoldable pub answerOf : ℕ → Answer
-answerOf n =
-    cond (eqb n 0) Done
-    (cond (eqb n 1) NoSuchLinks
-    (cond (eqb n 2) ArrayShort
-    (cond (eqb n 3) WorkShort
-    (cond (eqb n 4) BookBroken
-    (cond (eqb n 5) Full
-    (cond (eqb n 6) NoneHeld
-    (cond (eqb n 7) DoorAbove
-    (cond (eqb n 8) NoPlace
-    (cond (eqb n 9) OrderBroken
-    NotAFrame)))))))))
 
 -- a call and an answer have these numbers
 abbrev pub named : ℕ → ℕ → Bool

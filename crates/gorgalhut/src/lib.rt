@@ -3,6 +3,7 @@ ghost use mathlib.Core.Path.{_≡_};
 ghost use lib.Dec.{leb};
 ghost use lib.ListN.{length};
 ghost use Rattle.rules.specs.Tests.{_and_};
+ghost use Rattle.rules.specs.Answers.{answerOf};
 ghost use Rattle.rules.specs.Book.{sound};
 ghost use Rattle.rules.specs.Calls as rules;
 ghost use Rattle.buffers.specs.Format.{linksIn, bookOf, lentOf};
@@ -14,7 +15,7 @@ ghost use Rattle.frames.specs.Answers.{readBack};
 ghost use Rattle.frames.specs.Frames.{readOf};
 ghost use Rattle.frames.specs.AnswerLine.{answerLine};
 ghost use Rattle.gorgalhut.specs.Answered.{Answered, WorkLeft};
-ghost use Rattle.gorgalhut.specs.Numbered.{callOf, answerOf, named, tallied};
+ghost use Rattle.gorgalhut.specs.Numbered.{callOf, named, tallied};
 ghost use Rattle.gorgalhut.specs.Framed.{asked, codeIn, bodyIn, mayIn, lineIn, Lined};
 
 // Whether the array has a book and the book keeps every book rule.

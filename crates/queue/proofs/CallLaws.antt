@@ -180,7 +180,7 @@ pub refused-called : (ws : List ℕ) (o : Outcome) (x : Answer) → isDone x ≡
 unfolding refused
 refused-called ws o x f e =
     record {
-      answer-is = sym (ap (λ (z : Outcome). z .answer) e);
+      number-is = sym (ap (λ (z : Outcome). numberOf (z .answer)) e);
       word-is = sym (ap (λ (z : Outcome). z .word) e);
       steps-are = sym (ap (λ (z : Outcome). z .steps) e);
       packed-is = sym (ap (λ (z : Outcome). z .packed) e);
@@ -207,7 +207,7 @@ pub accepted-called : (ws ws′ : List ℕ) (o accepted : Outcome) (word steps :
     → ((p : ℕ) → Unused (linksIn ws′) p → getD ws′ p 0 ≡ getD ws p 0) → Called ws ws′ o Done word steps packed
 accepted-called ws ws′ o accepted word steps packed e a w s p q b long past unused =
     subst (λ z. Called ws ws′ z Done word steps packed) (sym e)
-    record { answer-is = sym a; word-is = w; steps-are = s; packed-is = p; long = long; past = past; unused = unused; refused = λ g. absurd (unlike (sym (done-is ws) ∙ g)); queue-is = λ g. q; sound-is = λ g. b }
+    record { number-is = ap numberOf (sym a); word-is = w; steps-are = s; packed-is = p; long = long; past = past; unused = unused; refused = λ g. absurd (unlike (sym (done-is ws) ∙ g)); queue-is = λ g. q; sound-is = λ g. b }
 
 the-one : (found : Bool) (entry : ℕ) (out : List ℕ) → oneIf found entry ≡ out → (found ≡ false → entry ≡ 0) → entry ≡ theEntry out
 unfolding theEntry

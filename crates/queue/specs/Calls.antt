@@ -6,7 +6,7 @@ use Prim.Native.Nat.{ℕ, _≤_}
 use lib.ListN.{length, getD}
 use Rattle.rules.specs.Links.{bookWords, words, most}
 use Rattle.rules.specs.declared.Answer.{Answer}
-use Rattle.rules.specs.Answers.{isDone}
+use Rattle.rules.specs.Answers.{numberOf, isDone}
 use Rattle.rules.specs.Book.{sound}
 use Rattle.rules.specs.Calls as rules
 use Rattle.rules.specs.Examples.{Order, setupOf, insertOf, takeIt, lookAt, heldNow, auditIt}
@@ -15,7 +15,7 @@ use Rattle.buffers.specs.Post.{Unused}
 
 -- answer, word, steps and packing are the rules' own; no unused word of the book and no word past the stated length changes; "Every refusal changes nothing; every accepted call leaves a book that keeps all book rules"
 pub record Called (ws ws′ : List ℕ) (o : rules.Outcome) (answer : Answer) (word steps : ℕ) (packed : Bool) : Type 0 where
-  pub answer-is : answer ≡ o .answer
+  pub number-is : numberOf answer ≡ numberOf (o .answer)
   pub word-is : word ≡ o .word
   pub steps-are : steps ≡ o .steps
   pub packed-is : packed ≡ o .packed

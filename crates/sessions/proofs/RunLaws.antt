@@ -36,6 +36,7 @@ use Rattle.lines.specs.declared.Ended.the-variants.{Line, Nothing}
 use Rattle.buffers.specs.Format.{linksIn, lentOf}
 use Rattle.queue.specs.Calls.{Called, SlotsKept, WorkKept, Besides}
 use Rattle.queue.proofs.CallLaws.{refused-called}
+use Rattle.queue.proofs.AgreeLaws.{the-answer}
 use Rattle.sessions.specs.Runs.{asked, orderCall, valuesCall, lineCall, answerOf, After, Left, Runs, ends, goes, Filled, Served, ServedAt}
 
 -- ---- one call
@@ -107,16 +108,16 @@ line-refused ws work read e = rw e (refused-called ws (rules.refused NotAFrame (
 
 pub after-called : (ws ws′ : List ℕ) (o : rules.Outcome) (answer : Answer) (word steps : ℕ) (packed : Bool) → Called ws ws′ o answer word steps packed → After ws ws′ o
 after-called ws ws′ o answer word steps packed called = record {
-  answer-is = refl;
+  number-is = refl;
   word-is = refl;
   steps-are = refl;
   packed-is = refl;
   long = called .long;
   past = called .past;
   unused = called .unused;
-  refused = λ no. called .refused (ap isDone (called .answer-is) ∙ no);
-  queue-is = λ yes. called .queue-is (ap isDone (called .answer-is) ∙ yes);
-  sound-is = λ yes. called .sound-is (ap isDone (called .answer-is) ∙ yes);
+  refused = λ no. called .refused (ap isDone (the-answer called) ∙ no);
+  queue-is = λ yes. called .queue-is (ap isDone (the-answer called) ∙ yes);
+  sound-is = λ yes. called .sound-is (ap isDone (the-answer called) ∙ yes);
 }
 
 -- ---- the last digits of a number are those of its rest
@@ -169,14 +170,14 @@ pub served-one : (n : ℕ) (ws ws′ work work′ : List ℕ) (read : Back Order
 served-one n ws ws′ work work′ read out out′ r answer number word steps packed h called left number-is laid =
     let o : rules.Outcome = lineCall n read (lentOf ws) in
     let line : answerLine number word (steps % 4294967296) ≡ answerOf o =
-    rw (number-is, called .answer-is, called .word-is, called .steps-are, digits-rest (o .steps)) refl in
+    rw (number-is, the-answer called, called .word-is, called .steps-are, digits-rest (o .steps)) refl in
     let laid : Laid true (answerOf o) out out′ r = subst (λ l. Laid true l out out′ r) line laid in
     let long : length (answerOf o) ≡ 27 = answer-long (numberOf (o .answer)) (o .word) (o .steps) in
     let fits = le-leb (length (answerOf o)) (length out) (omega arith) in
     record {
       room = λ g. record {
         bytes = answerOf o;
-        run = runs-one n ws ws′ work work′ read (after-called ws ws′ o answer word steps packed called) (subst (Left (read .values) ws ws′ work work′) (called .answer-is) left);
+        run = runs-one n ws ws′ work work′ read (after-called ws ws′ o answer word steps packed called) (subst (Left (read .values) ws ws′ work work′) (the-answer called) left);
         count = written-same r (Bytes (length (answerOf o))) (laid .answer ∙ rw fits refl);
         after = laid .after ∙ rw fits refl;
       };

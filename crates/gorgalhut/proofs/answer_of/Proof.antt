@@ -1,7 +1,7 @@
 -- `answer_of` finds the answer of a number.
 use mathlib.Core.Path.{refl}
 use borrow.Author.Tests.{ne-eqb}
-use Rattle.gorgalhut.specs.Numbered.{answerOf}
+use Rattle.rules.specs.Answers.{answerOf}
 use Rattle.gorgalhut.proofs.answer_of.Statement.{statement}
 use Rattle.gorgalhut.proofs.answer_of.Tie as tie
 

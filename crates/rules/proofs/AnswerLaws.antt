@@ -1,0 +1,37 @@
+-- An answer and its number say the same.
+use Prim.Native.Nat.{ℕ, _≤_}
+use mathlib.Core.Path.{_≡_, refl, sym, ap, _∙_}
+use native.Mathlib.Omega.{arith}
+use Rattle.rules.specs.declared.Answer.{Answer}
+use Rattle.rules.specs.declared.Answer.the-variants.{Done, NoSuchLinks, ArrayShort, WorkShort, BookBroken, Full, NoneHeld, DoorAbove, NoPlace, OrderBroken, NotAFrame}
+use Rattle.rules.specs.Answers.{numberOf, answerOf}
+
+pub answer-again : (a : Answer) → answerOf (numberOf a) ≡ a
+unfolding answerOf
+answer-again Done = refl
+answer-again NoSuchLinks = refl
+answer-again ArrayShort = refl
+answer-again WorkShort = refl
+answer-again BookBroken = refl
+answer-again Full = refl
+answer-again NoneHeld = refl
+answer-again DoorAbove = refl
+answer-again NoPlace = refl
+answer-again OrderBroken = refl
+answer-again NotAFrame = refl
+
+pub same-number : (a b : Answer) → numberOf a ≡ numberOf b → a ≡ b
+same-number a b e = sym (answer-again a) ∙ ap answerOf e ∙ answer-again b
+
+pub answer-few : (a : Answer) → numberOf a ≤ 10
+answer-few Done = omega arith
+answer-few NoSuchLinks = omega arith
+answer-few ArrayShort = omega arith
+answer-few WorkShort = omega arith
+answer-few BookBroken = omega arith
+answer-few Full = omega arith
+answer-few NoneHeld = omega arith
+answer-few DoorAbove = omega arith
+answer-few NoPlace = omega arith
+answer-few OrderBroken = omega arith
+answer-few NotAFrame = omega arith
