@@ -10,4 +10,6 @@ pub mod DigitLaws
 pub mod TallyLaws
 pub mod FrameLaws
 pub mod MadeLaws
+pub mod UnreadLaws
+pub mod Existence
 pub mod Demands

@@ -160,7 +160,7 @@ module _ (ws : List ℕ) where
 
 -- ---- a queue after a change of buffers
 
-each-same : {A : Type 0} (f g : ℕ → A) (i n : ℕ) → ((m : ℕ) → m < i + n → f m ≡ g m) → map f (from i n) ≡ map g (from i n)
+pub each-same : {A : Type 0} (f g : ℕ → A) (i n : ℕ) → ((m : ℕ) → m < i + n → f m ≡ g m) → map f (from i n) ≡ map g (from i n)
 unfolding from
 each-same f g i zero same = refl
 each-same f g i (suc n) same = λ p. same i (omega arith) p ∷ each-same f g (suc i) n (λ m lt. same m (omega arith)) p
