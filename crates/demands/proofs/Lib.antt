@@ -12,4 +12,7 @@ pub mod FrameLaws
 pub mod MadeLaws
 pub mod UnreadLaws
 pub mod Existence
+pub mod AskedLaws
+pub mod LibraryLaws
+pub mod ToldLaws
 pub mod Demands

@@ -56,7 +56,7 @@ module _ (ws area : List ℕ) (answer : Answer) (word steps : ℕ) (packed : Boo
 same-inside : (H : ℕ) (area left : List ℕ) → left ≡ area → (length left ≡ length area) × ((p : ℕ) → H ≤ p → getD left p 0 ≡ getD area p 0)
 same-inside H area left e = (ap length e, λ p far. ap (λ (ws : List ℕ). getD ws p 0) e)
 
-besides-inside : (order : Order) (ws ws′ area left : List ℕ) (answer : Answer) → Besides order ws ws′ area left answer
+pub besides-inside : (order : Order) (ws ws′ area left : List ℕ) (answer : Answer) → Besides order ws ws′ area left answer
     → (length left ≡ length area) × ((p : ℕ) → most (linksIn ws) ≤ p → getD left p 0 ≡ getD area p 0)
 besides-inside (setupOf links) ws ws′ area left answer besides = same-inside (most (linksIn ws)) area left (besides .1)
 besides-inside (insertOf entry) ws ws′ area left answer besides = (besides .long, besides .past)

@@ -1,0 +1,167 @@
+-- A run of lines is a sequence of calls, lines answered 10 left out, and the answer lines tell of each call all but its packing.
+use Prim.Native.Nat.{ℕ, _+_, _*_, _/_, _^_, _≤_, _<_}
+use mathlib.Core.Path.{_≡_, refl, sym, ap, _∙_, subst}
+use mathlib.Core.Bool.{Bool, true, false}
+use mathlib.Core.List.{List, [], _∷_, _++_, map, append-assoc}
+use native.Mathlib.Omega.{arith}
+use lib.Dec.{eqb}
+use lib.ListN.{length, take, drop}
+use lib.Seq.{take-at, drop-at}
+use Rattle.rules.specs.declared.Answer.{Answer}
+use Rattle.rules.specs.declared.Answer.the-variants.{NotAFrame}
+use Rattle.rules.specs.Answers.{numberOf, answerOf, isDone}
+use Rattle.rules.specs.Calls as rules
+use Rattle.rules.specs.Examples as orders
+use Rattle.rules.proofs.AnswerLaws.{answer-again, answer-few}
+use Rattle.frames.specs.Answers.{Back, done, refused}
+use Rattle.frames.specs.AnswerLine.{answerLine}
+use Rattle.frames.specs.Digits.{number, digits}
+use Rattle.frames.specs.Entries.{wordOf}
+use Rattle.frames.specs.Frames.{readOf}
+use Rattle.frames.specs.Orders.{Fits}
+use Rattle.frames.specs.declared.Order.{Order}
+use Rattle.frames.specs.declared.Order.the-variants.{Setup, Insert, Take, Look, Held, Audit}
+use Rattle.frames.proofs.DigitLaws.{number-digits}
+use Rattle.frames.proofs.EntryLaws.{word-below}
+use Rattle.frames.proofs.OrderLaws.{Settled, order, none}
+use Rattle.frames.proofs.FrameLaws.{read-settled}
+use Rattle.frames.proofs.RoundTrip.{read-fits}
+use Rattle.frames.proofs.Laying.{answer-long}
+use Rattle.buffers.specs.Format.{lentOf}
+use Rattle.queue.specs.Calls.{Besides}
+use Rattle.queue.proofs.CheckLaws.{unlike}
+use Rattle.sessions.specs.Runs as sessions
+use Rattle.sessions.specs.Runs.{asked, orderCall, valuesCall, After, Left, Runs, ends, goes}
+use Rattle.demands.specs.Histories.{Call, Made, Sequence, more}
+use Rattle.demands.specs.Told.{toldBy, oneMore, toldAfter}
+use Rattle.demands.proofs.MadeLaws.{besides-inside}
+use Rattle.demands.proofs.DigitLaws.{eight-digits}
+
+-- ---- an answer line, read again
+
+module _ (a w s : ℕ) where
+  line-answer : take 2 (answerLine a w s) ≡ digits 2 a
+  unfolding digits
+  line-answer = refl
+
+  line-word : take 16 (drop 2 (answerLine a w s)) ≡ digits 16 w
+  unfolding digits
+  line-word = refl
+
+  line-steps : take 8 (drop 18 (answerLine a w s)) ≡ digits 8 s
+  unfolding digits
+  line-steps = refl
+
+-- a call as its answer line tells it: sixteen digits of the word, and nothing of a packing
+unfoldable pub seen : Call → Call
+seen c = record { order = c .order; work = c .work; answer = c .answer; word = number (digits 16 (c .word)); steps = c .steps; packed = false }
+
+abbrev callOf : ℕ → Order → rules.Outcome → Call
+callOf n o out = record { order = asked o; work = n; answer = out .answer; word = out .word; steps = out .steps; packed = out .packed }
+
+line-tells : (n : ℕ) (o : Order) (out : rules.Outcome) → out .steps < 16 ^ 8 → toldBy n o (sessions.answerOf out) ≡ seen (callOf n o out)
+unfolding toldBy seen
+line-tells n o out few =
+    let a = numberOf (out .answer) in
+    let small : a < 16 ^ 2 = omega (arith, answer-few (out .answer)) in
+    let answers : answerOf (number (take 2 (sessions.answerOf out))) ≡ out .answer =
+    ap (λ ds. answerOf (number ds)) (line-answer a (out .word) (out .steps)) ∙ ap answerOf (number-digits 2 a small) ∙ answer-again (out .answer) in
+    let words : number (take 16 (drop 2 (sessions.answerOf out))) ≡ number (digits 16 (out .word)) = ap number (line-word a (out .word) (out .steps)) in
+    let steps : number (take 8 (drop 18 (sessions.answerOf out))) ≡ out .steps = ap number (line-steps a (out .word) (out .steps)) ∙ number-digits 8 (out .steps) few in
+    λ i. record { order = asked o; work = n; answer = answers i; word = words i; steps = steps i; packed = false }
+
+-- ---- what frames bring
+
+-- an order's entry is a word of 64 bits
+abbrev pub SmallOrder : orders.Order → Type 0
+SmallOrder (orders.setupOf links) = Unit {0}
+SmallOrder (orders.insertOf entry) = entry < 16 ^ 16
+SmallOrder orders.takeIt = Unit {0}
+SmallOrder orders.lookAt = Unit {0}
+SmallOrder orders.heldNow = Unit {0}
+SmallOrder orders.auditIt = Unit {0}
+
+abbrev pub EachSmall : List Call → Type 0
+EachSmall [] = Unit {0}
+EachSmall (c ∷ cs) = SmallOrder (c .order) × EachSmall cs
+
+abbrev FitsFirst : List Order → Type 0
+FitsFirst [] = Unit {0}
+FitsFirst (o ∷ os) = Fits o
+
+abbrev EachFits : List (Back Order) → Type 0
+EachFits [] = Unit {0}
+EachFits (read ∷ reads) = FitsFirst (read .values) × EachFits reads
+
+asked-small : (o : Order) → Fits o → SmallOrder (asked o)
+asked-small (Setup links) f = tt
+asked-small (Insert e) f = word-below e f
+asked-small Take f = tt
+asked-small Look f = tt
+asked-small Held f = tt
+asked-small Audit f = tt
+
+line-fits : (l : List ℕ) → FitsFirst (readOf l .values)
+line-fits l = go (readOf l) (read-settled l) refl
+  where
+    go : (read : Back Order) → Settled read → readOf l ≡ read → FitsFirst (read .values)
+    go read (order o) e = read-fits l o e
+    go read none e = tt
+
+pub lines-fit : (ls : List (List ℕ)) → EachFits (map readOf ls)
+lines-fit [] = tt
+lines-fit (l ∷ ls) = (line-fits l, lines-fit ls)
+
+-- ---- a line more
+
+-- calls on an array that was ws₀ at first and is ws now, of which these are told; the work area has n words
+record Tells (n : ℕ) (ws₀ ws work : List ℕ) (told : List Call) : Type 0 where
+  calls : List Call
+  sequence : Sequence ws₀ calls ws
+  tells : told ≡ map seen calls
+  small : EachSmall calls
+  long : length work ≡ n
+
+one-more : (n : ℕ) (ws₀ ws next work left : List ℕ) (values : List Order) (told : List Call) → After ws next (valuesCall n values (lentOf ws))
+    → Left values ws next work left (valuesCall n values (lentOf ws) .answer) → FitsFirst values → Tells n ws₀ ws work told
+    → Tells n ws₀ next left (oneMore n values (sessions.answerOf (valuesCall n values (lentOf ws))) told)
+unfolding valuesCall orderCall oneMore isDone rules.refused
+one-more n ws₀ ws next work left [] told after leaves fits t = record {
+  calls = t .calls;
+  sequence = subst (Sequence ws₀ (t .calls)) (sym (leaves .0)) (t .sequence);
+  tells = t .tells;
+  small = t .small;
+  long = ap length (leaves .1) ∙ t .long;
+}
+one-more n ws₀ ws next work left (o ∷ os) told after leaves fits t =
+    let out = orders.call n (asked o) (lentOf ws) in
+    let c = callOf n o out in
+    let made : Made ws c next = record { called = after; area = work; left = left; lent = t .long; besides = leaves } in
+    record {
+      calls = c ∷ t .calls;
+      sequence = more ws next c (t .calls) (t .sequence) made;
+      tells = λ i. line-tells n o out (eight-digits ws next c made) i ∷ t .tells i;
+      small = (asked-small o fits, t .small);
+      long = besides-inside (asked o) ws next work left (out .answer) leaves .0 ∙ t .long;
+    }
+
+-- ---- runs
+
+-- the first answer line, and those behind it
+first-line : (a w s : ℕ) (bytes : List ℕ) → take 27 (answerLine a w s ++ bytes) ≡ answerLine a w s
+first-line a w s bytes = take-at (answerLine a w s) bytes 27 (answer-long a w s)
+
+other-lines : (a w s : ℕ) (bytes : List ℕ) → drop 27 (answerLine a w s ++ bytes) ≡ bytes
+other-lines a w s bytes = drop-at (answerLine a w s) bytes 27 (answer-long a w s)
+
+run-tells : {n : ℕ} {ws work ws′ work′ bytes : List ℕ} {reads : List (Back Order)} (ws₀ : List ℕ) (told : List Call) → Runs n ws work reads ws′ work′ bytes → EachFits reads
+    → Tells n ws₀ ws work told → Tells n ws₀ ws′ work′ (toldAfter n reads bytes told)
+unfolding toldAfter
+run-tells ws₀ told (ends ws work) fits t = t
+run-tells {n} ws₀ told (goes ws work next left ws′ work′ read reads bytes after leaves run) fits t =
+    let out = valuesCall n (read .values) (lentOf ws) in
+    let line = sessions.answerOf out in
+    let first = first-line (numberOf (out .answer)) (out .word) (out .steps) bytes in
+    let others = other-lines (numberOf (out .answer)) (out .word) (out .steps) bytes in
+    let now = one-more n ws₀ ws next work left (read .values) told after leaves (fits .0) t in
+    subst (Tells n ws₀ ws′ work′) (λ i. toldAfter n reads (sym others i) (oneMore n (read .values) (sym first i) told)) (run-tells ws₀ (oneMore n (read .values) line told) run (fits .1) now)
