@@ -15,4 +15,5 @@ pub mod Existence
 pub mod AskedLaws
 pub mod LibraryLaws
 pub mod ToldLaws
+pub mod SeenLaws
 pub mod Demands

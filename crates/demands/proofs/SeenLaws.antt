@@ -1,0 +1,249 @@
+-- Demands 2 and 3 hold of the calls that answer lines tell: sixteen digits of a word are enough after a setup, and they do not speak of packings.
+use Prim.Native.Nat.{ℕ, zero, suc, _+_, _*_, _/_, _^_, _≤_, _<_}
+use mathlib.Core.Path.{_≡_, refl, sym, ap, _∙_, subst}
+use mathlib.Core.Bool.{Bool, true, false}
+use mathlib.Core.List.{List, [], _∷_, _++_, map}
+use native.Mathlib.Omega.{arith}
+use native.Mathlib.Decide.{decLt}
+use native.Mathlib.Nat.{mul-le-mul-left}
+use borrow.Author.Tests.{eq-eqb}
+use lib.Dec.{T, eqb, eqb→eq, lit≤}
+use lib.ListN.{length, drop}
+use Rattle.rules.specs.Links.{s, most}
+use Rattle.rules.specs.Book.{isLinkNumber}
+use Rattle.rules.specs.Entries.{wholeWord}
+use Rattle.rules.specs.Tests.{_or_}
+use Rattle.rules.specs.Examples.{Order, setupOf, insertOf, takeIt, lookAt, heldNow, auditIt}
+use Rattle.frames.specs.Digits.{number, digits}
+use Rattle.frames.proofs.DigitLaws.{number-digits}
+use Rattle.demands.specs.Histories.{Call, accepted, begins, linksOf, Sequence, hasSetup, fromSetup, since, links, brought, handed, ifDone, putIn, takenOut, inserts, takes, once, packings, steps, times, StillHeld, Smallest}
+use Rattle.demands.specs.Bounds.{perInsert, perPacking, stepsBound}
+use Rattle.demands.specs.Asked.{Second, Two, Three}
+use Rattle.demands.proofs.HistoryLaws.{stands}
+use Rattle.demands.proofs.BoundLaws.{of-four}
+use Rattle.demands.proofs.AnswerLaws.{at-most}
+use Rattle.demands.proofs.SequenceLaws.{from-setup}
+use Rattle.demands.proofs.AskedLaws.{from-last, Before, cut-at, sequence-two, sequence-three}
+use Rattle.demands.proofs.ToldLaws.{seen, SmallOrder, EachSmall}
+
+-- ---- the same setups, inserts and steps
+
+since-seen : (cs : List Call) → since (map seen cs) ≡ map seen (since cs)
+unfolding seen
+since-seen [] = refl
+since-seen (c ∷ cs) = go (begins c) (since-seen cs)
+  where
+    go : (b : Bool) → since (map seen cs) ≡ map seen (since cs) → elim b as (λ b. List Call) [ true ↦ [] | false ↦ seen c ∷ since (map seen cs) ] ≡ map seen (elim b [ true ↦ [] | false ↦ c ∷ since cs ])
+    go true h = refl
+    go false h = ap (λ now. seen c ∷ now) h
+
+links-seen : (cs : List Call) → links (map seen cs) ≡ links cs
+unfolding seen
+links-seen [] = refl
+links-seen (c ∷ cs) = ap (λ l. elim (begins c) as (λ b. ℕ) [ true ↦ linksOf (c .order) | false ↦ l ]) (links-seen cs)
+
+has-seen : (cs : List Call) → hasSetup (map seen cs) ≡ hasSetup cs
+unfolding seen
+has-seen [] = refl
+has-seen (c ∷ cs) = ap (λ h. begins c or h) (has-seen cs)
+
+put-seen : (cs : List Call) → putIn (map seen cs) ≡ putIn cs
+unfolding seen
+put-seen [] = refl
+put-seen (c ∷ cs) = ap (λ es. ifDone (accepted c) (brought (c .order)) ++ es) (put-seen cs)
+
+steps-seen : (cs : List Call) → steps (map seen cs) ≡ steps cs
+unfolding seen
+steps-seen [] = refl
+steps-seen (c ∷ cs) = ap (λ t. c .steps + t) (steps-seen cs)
+
+-- ---- sixteen digits are enough
+
+abbrev Small : List ℕ → Type 0
+Small es = (v : ℕ) → 0 < times v es → v < 16 ^ 16
+
+times-append : (v : ℕ) (es fs : List ℕ) → times v (es ++ fs) ≡ times v es + times v fs
+times-append v [] fs = omega arith
+times-append v (e ∷ es) fs = omega (arith, times-append v es fs)
+
+both-small : (es fs : List ℕ) → Small es → Small fs → Small (es ++ fs)
+both-small es fs one two v h =
+    elim (decLt 0 (times v es)) [
+      | yes g ↦ one v g
+      | no g ↦ two v (omega (arith, times-append v es fs))
+    ]
+
+if-small : (b : Bool) (es : List ℕ) → Small es → Small (ifDone b es)
+if-small true es h = h
+if-small false es h = λ v g. absurd (omega arith)
+
+brought-small : (order : Order) → SmallOrder order → Small (brought order)
+brought-small (setupOf links) h v g = absurd (omega arith)
+brought-small (insertOf entry) h v g = go (eqb v entry) refl g
+  where
+    go : (b : Bool) → eqb v entry ≡ b → 0 < once b + 0 → v < 16 ^ 16
+    go true e g = rw (eqb→eq v entry (subst T (sym e) tt)) h
+    go false e g = absurd (omega arith)
+brought-small takeIt h v g = absurd (omega arith)
+brought-small lookAt h v g = absurd (omega arith)
+brought-small heldNow h v g = absurd (omega arith)
+brought-small auditIt h v g = absurd (omega arith)
+
+put-small : (cs : List Call) → EachSmall cs → Small (putIn cs)
+put-small [] h = λ v g. absurd (omega arith)
+put-small (c ∷ cs) h = both-small (ifDone (accepted c) (brought (c .order))) (putIn cs) (if-small (accepted c) (brought (c .order)) (brought-small (c .order) (h .0))) (put-small cs (h .1))
+
+since-small : (cs : List Call) → EachSmall cs → EachSmall (since cs)
+since-small [] h = tt
+since-small (c ∷ cs) h = go (begins c) (since-small cs (h .1))
+  where
+    go : (b : Bool) → EachSmall (since cs) → EachSmall (elim b [ true ↦ [] | false ↦ c ∷ since cs ])
+    go true g = tt
+    go false g = (h .0, g)
+
+-- the last sixteen digits of a word
+abbrev digitsOf : ℕ → ℕ
+digitsOf w = number (digits 16 w)
+
+all-again : (es : List ℕ) → Small es → map digitsOf es ≡ es
+all-again [] h = refl
+all-again (e ∷ es) h =
+    let first : e < 16 ^ 16 = h e (omega (arith, ap once (eq-eqb e e refl))) in
+    let others : map digitsOf es ≡ es = all-again es (λ v g. h v (omega arith)) in
+    λ i. number-digits 16 e first i ∷ others i
+
+out-seen : (cs : List Call) → takenOut (map seen cs) ≡ map digitsOf (takenOut cs)
+unfolding seen
+out-seen [] = refl
+out-seen (c ∷ cs) = go (c .order) (accepted c) (out-seen cs)
+  where
+    go : (order : Order) (b : Bool) → takenOut (map seen cs) ≡ map digitsOf (takenOut cs)
+        → ifDone b (handed order (digitsOf (c .word))) ++ takenOut (map seen cs) ≡ map digitsOf (ifDone b (handed order (c .word)) ++ takenOut cs)
+    go (setupOf links) true h = h
+    go (setupOf links) false h = h
+    go (insertOf entry) true h = h
+    go (insertOf entry) false h = h
+    go takeIt true h = ap (λ es. digitsOf (c .word) ∷ es) h
+    go takeIt false h = h
+    go lookAt true h = h
+    go lookAt false h = h
+    go heldNow true h = h
+    go heldNow false h = h
+    go auditIt true h = h
+    go auditIt false h = h
+
+-- ---- demand 2
+
+smallest-by : (e : ℕ) (cs ds : List Call) → putIn ds ≡ putIn cs → takenOut ds ≡ takenOut cs → Smallest e cs → Smallest e ds
+smallest-by e cs ds i o z = record { held = rw (i, o) (z .held); least = λ v h. z .least v (rw (i, o) at h) }
+
+module _ (c : Call) (now : List Call) (l : ℕ) (small : Small (putIn now)) (outs : takenOut (map seen now) ≡ takenOut now) (fits : inserts now ≤ takes now + 17280) where
+  still : (v : ℕ) → StillHeld v (map seen now) → StillHeld v now
+  still v h = rw (put-seen now, outs) at h
+
+  smallest-seen : Smallest (c .word) now → Smallest (digitsOf (c .word)) (map seen now)
+  smallest-seen z =
+      let enough : c .word < 16 ^ 16 = small (c .word) (omega (arith, z .held)) in
+      subst (λ w. Smallest w (map seen now)) (sym (number-digits 16 (c .word) enough)) (smallest-by (c .word) now (map seen now) (put-seen now) outs z)
+
+  second-seen : Second c now l → Second (seen c) (map seen now) l
+  unfolding seen
+  second-seen z = record {
+    take-smallest = λ is done. smallest-seen (z .take-smallest is done);
+    look-smallest = λ is done. smallest-seen (z .look-smallest is done);
+    take-accepted = λ is v h. z .take-accepted is v (still v h);
+    look-accepted = λ is v h. z .look-accepted is v (still v h);
+    take-refused = λ is no. let e = z .take-refused is no in (e .0, λ v. ap (times v) outs ∙ e .1 v ∙ sym (ap (times v) (put-seen now)));
+    insert-accepted = λ e is work door less. z .insert-accepted e is work door (omega (arith, ap length (put-seen now), ap length outs));
+    held-count = λ is.
+        let e = z .held-count is in
+        (e .0, omega (arith, ap length (put-seen now), ap length outs, e .1, number-digits 16 (c .word) (omega (arith, e .1))));
+    audit-done = λ is. z .audit-done is;
+  }
+
+few-held : (l : ℕ) → T (isLinkNumber l) → most l ≤ 17280
+unfolding most
+few-held = of-four (λ l. most l ≤ 17280) (lit≤ tt) (lit≤ tt) (lit≤ tt) (lit≤ tt)
+
+-- what is known of calls one after the other, an accepted setup among them
+module _ {ws ws′ : List ℕ} (cs : List Call) (calls : Sequence ws cs ws′) (each-small : EachSmall cs) (has : hasSetup cs ≡ true) where
+  puts : Small (putIn (since cs))
+  puts = put-small (since cs) (since-small cs each-small)
+
+  outs : takenOut (map seen (since cs)) ≡ takenOut (since cs)
+  outs = out-seen (since cs) ∙ all-again (takenOut (since cs)) (λ v g. puts v (omega (arith, sequence-two cs calls .no-more has v)))
+
+  fit : inserts (since cs) ≤ takes (since cs) + 17280
+  fit =
+      let h = from-setup calls has in
+      from-last (λ now l. inserts now ≤ takes now + 17280) cs (omega (arith, at-most h, few-held (links (fromSetup cs)) (stands h .number)))
+
+-- a call among those told is a call as its line tells it
+record Split (cs : List Call) (c : Call) (earlier : List Call) : Type 0 where
+  later′ : List Call
+  c′ : Call
+  earlier′ : List Call
+  whole : cs ≡ later′ ++ c′ ∷ earlier′
+  same : seen c′ ≡ c
+  before : map seen earlier′ ≡ earlier
+
+firstOr : Call → List Call → Call
+firstOr c [] = c
+firstOr c (d ∷ ds) = d
+
+split : (cs later : List Call) (c : Call) (earlier : List Call) → map seen cs ≡ later ++ c ∷ earlier → Split cs c earlier
+unfolding firstOr
+split [] [] c earlier e = absurd (omega (arith, ap length e))
+split [] (d ∷ later) c earlier e = absurd (omega (arith, ap length e))
+split (b ∷ cs) [] c earlier e = record { later′ = []; c′ = b; earlier′ = cs; whole = refl; same = ap (firstOr c) e; before = ap (drop 1) e }
+split (b ∷ cs) (d ∷ later) c earlier e =
+    let z = split cs later c earlier (ap (drop 1) e) in
+    record { later′ = b ∷ z .later′; c′ = z .c′; earlier′ = z .earlier′; whole = ap (λ cs. b ∷ cs) (z .whole); same = z .same; before = z .before }
+
+small-before : (later : List Call) (c : Call) (earlier : List Call) → EachSmall (later ++ c ∷ earlier) → EachSmall earlier
+small-before [] c earlier h = h .1
+small-before (d ∷ later) c earlier h = small-before later c earlier (h .1)
+
+-- what holds of the calls since the last setup, each as its line tells it
+since-told : (P : List Call → ℕ → Type 0) (cs : List Call) → P (map seen (since cs)) (links cs) → P (since (map seen cs)) (links (map seen cs))
+since-told P cs p = subst (λ now. P now (links (map seen cs))) (sym (since-seen cs)) (subst (P (map seen (since cs))) (sym (links-seen cs)) p)
+
+module _ {ws ws′ : List ℕ} (cs : List Call) (calls : Sequence ws cs ws′) (each-small : EachSmall cs) where
+  each-seen : (later : List Call) (c : Call) (earlier : List Call) → map seen cs ≡ later ++ c ∷ earlier → hasSetup earlier ≡ true → Second c (since earlier) (links earlier)
+  each-seen later c earlier e has =
+      let z = split cs later c earlier e in
+      let f = z .earlier′ in
+      let had : hasSetup f ≡ true = sym (has-seen f) ∙ ap hasSetup (z .before) ∙ has in
+      let smalls : EachSmall f = small-before (z .later′) (z .c′) f (subst EachSmall (z .whole) each-small) in
+      let b : Before ws (z .c′) f = cut-at (z .later′) (z .c′) f (subst (λ cs. Sequence ws cs ws′) (z .whole) calls) in
+      let told : Second (seen (z .c′)) (map seen (since f)) (links f) =
+      second-seen (z .c′) (since f) (links f) (puts f (b .calls) smalls had) (outs f (b .calls) smalls had) (fit f (b .calls) smalls had)
+      (sequence-two cs calls .each (z .later′) (z .c′) f (z .whole) had) in
+      subst (λ earlier. Second c (since earlier) (links earlier)) (z .before)
+      (subst (λ c. Second c (since (map seen f)) (links (map seen f))) (z .same) (since-told (Second (seen (z .c′))) f told))
+
+  pub seen-two : Two (map seen cs)
+  seen-two = record {
+    each = each-seen;
+    no-more = λ has.
+        let had : hasSetup cs ≡ true = sym (has-seen cs) ∙ has in
+        since-told (λ now l. (v : ℕ) → times v (takenOut now) ≤ times v (putIn now)) cs (λ v.
+        omega (arith, ap (times v) (outs cs calls each-small had), ap (times v) (put-seen (since cs)), sequence-two cs calls .no-more had v));
+  }
+
+  -- ---- demand 3: whatever packed, it was not more often than the bound says
+
+  more-packings : (l n p q : ℕ) → p ≤ q → stepsBound l n p ≤ stepsBound l n q
+  unfolding stepsBound
+  more-packings l n p q h = omega (arith, mul-le-mul-left (perPacking l) h)
+
+  pub seen-three : let told = map seen cs in Three told (inserts (since told) / s (links told))
+  seen-three = record {
+    bounded = λ has.
+        let had : hasSetup cs ≡ true = sym (has-seen cs) ∙ has in
+        let z = sequence-three cs calls in
+        since-told (λ now l. steps now ≤ stepsBound l (inserts now) (inserts now / s l)) cs
+        (subst (λ es. steps (map seen (since cs)) ≤ stepsBound (links cs) (length es) (length es / s (links cs))) (sym (put-seen (since cs)))
+        (omega (arith, steps-seen (since cs), z .bounded had, more-packings (links cs) (inserts (since cs)) (packings (since cs)) (inserts (since cs) / s (links cs)) (z .few had))));
+    few = λ has. omega arith;
+  }
