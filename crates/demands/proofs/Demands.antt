@@ -3,7 +3,7 @@ use Prim.Native.Nat.{ℕ, _+_, _*_, _/_, _^_, _≤_, _<_}
 use mathlib.Core.Path.{_≡_, refl}
 use mathlib.Core.Logic.{_⊎_}
 use mathlib.Core.Bool.{true, false}
-use mathlib.Core.List.{List, [], _∷_, _++_}
+use mathlib.Core.List.{List, [], _∷_, _++_, flatten}
 use lib.ListN.{length, getD, take, drop}
 use Rattle.rules.specs.declared.Answer.{Answer}
 use Rattle.rules.specs.declared.Answer.the-variants.{Done, NoneHeld, NoPlace}
@@ -17,6 +17,7 @@ use Rattle.buffers.specs.Post.{Unused}
 use Rattle.queue.proofs.AgreeLaws.{Agree}
 use Rattle.tally.specs.Day.{nothing, plusEach}
 use Rattle.tally.specs.Sums.{Within}
+use Rattle.sessions.specs.Pieces.{Session}
 use Rattle.frames.specs.Orders.{Fits}
 use Rattle.frames.specs.declared.Order.{Order}
 use Rattle.frames.specs.declared.ReadFrame.{ReadFrame}
@@ -27,6 +28,11 @@ use Rattle.demands.specs.Histories.{Call, Made, accepted, History, Seque
 use Rattle.demands.specs.Exact.{Answers}
 use Rattle.demands.specs.Bounds.{stepsBound}
 use Rattle.demands.specs.Tallies.{tallyAfter, sums}
+use Rattle.demands.specs.Unread.{SameUpTo, MadeSame}
+use Rattle.demands.specs.Asked.{Two, Three}
+use Rattle.demands.specs.Told.{told, Tells}
+use Rattle.demands.specs.Library as library
+use Rattle.demands.specs.Existence.{Exists}
 use Rattle.demands.proofs.HistoryLaws.{stands}
 use Rattle.demands.proofs.BoundLaws.{few-steps, four-rows, one-to-four}
 use Rattle.demands.proofs.SmallestLaws as smallest
@@ -37,6 +43,11 @@ use Rattle.demands.proofs.MadeLaws.{Nothing, area-inside, refused-nothi
 use Rattle.demands.proofs.DigitLaws.{eight-digits}
 use Rattle.demands.proofs.TallyLaws.{history-made, since-made, tallied, tally-sums}
 use Rattle.demands.proofs.FrameLaws.{Reads, Writes, read-back, write-back}
+use Rattle.demands.proofs.UnreadLaws.{made-unread}
+use Rattle.demands.proofs.Existence.{computed}
+use Rattle.demands.proofs.AskedLaws.{sequence-two, sequence-three}
+use Rattle.demands.proofs.LibraryLaws.{library-made, library-calls}
+use Rattle.demands.proofs.SeenLaws.{session-tells, session-two, session-three}
 
 -- ---- demand 1: a call c on any words ws, which left the words ws′
 
@@ -69,6 +80,10 @@ module _ (ws ws′ : List ℕ) (c : Call) (made : Made ws c ws′) where
 pub outcomes-agree : (ws ws₁ ws₂ : List ℕ) (c d : Call) → c .order ≡ d .order → c .work ≡ d .work → Made ws c ws₁ → Made ws d ws₂
     → Agree ws₁ ws₂ (c .answer) (d .answer) (c .word) (d .word) (c .steps) (d .steps) (c .packed) (d .packed)
 outcomes-agree = made-agree
+
+-- "Words past the stated length are never touched": nor are they read, nor is a word of the book that means nothing
+pub never-read : (ws vs ws′ vs′ : List ℕ) (c d : Call) → SameUpTo ws vs → c .order ≡ d .order → c .work ≡ d .work → Made ws c ws′ → Made vs d vs′ → MadeSame c d ws′ vs′
+never-read = made-unread
 
 -- ---- demand 2: a call c in a history, after the calls `earlier` and before the calls `later`
 
@@ -190,3 +205,43 @@ module _ {ws : List ℕ} (cs : List Call) (h : History cs ws) where
   -- a tally begun at the last accepted setup keeps demand 3's bound
   pub tally-bounded : Within (sums (since cs)) → let t = tallyAfter (since cs) in t .steps ≤ stepsBound (links cs) (t .inserts) (t .packings)
   tally-bounded w = rw (tally-sums (since cs) (since-made cs (history-made h)) w) steps-bounded
+
+-- there are histories: a computed one has sweeps, a packing and a refusal
+pub histories-exist : Exists
+histories-exist = computed
+
+-- ---- demands 2 and 3 of any calls one after the other, as specs/Asked.antt asks them
+
+module _ {ws ws′ : List ℕ} (cs : List Call) (calls : Sequence ws cs ws′) where
+  pub calls-two : Two cs
+  calls-two = sequence-two cs calls
+
+  pub calls-three : Three cs (packings (since cs))
+  calls-three = sequence-three cs calls
+
+-- ---- of the answer lines that the program writes: any input in any pieces, over any array and work area, and what came out
+
+module _ {ws ws′ work work′ out : List ℕ} (pieces : List (List ℕ)) (session : Session (length work) ws work [] pieces ws′ work′ out) where
+  -- a run of lines is a sequence of calls, lines answered 10 left out; of each its line tells answer, word and all digits of its steps
+  pub lines-are-calls : Tells (length work) ws ws′ (flatten pieces) out
+  lines-are-calls = session-tells pieces session
+
+  pub lines-two : Two (told (length work) (flatten pieces) out)
+  lines-two = session-two pieces session
+
+  -- lines do not tell of packings, so the bound is stated with the most that there can be: n divided by s(L), rounded down
+  pub lines-three : let cs = told (length work) (flatten pieces) out in Three cs (inserts (since cs) / s (links cs))
+  lines-three = session-three pieces session
+
+-- ---- of calls by the library, from what C gets back
+
+-- each is a call that was made
+pub library-call-made : {ws ws′ : List ℕ} {c : Call} → library.Called ws c ws′ → Made ws c ws′
+library-call-made = library-made
+
+module _ {ws ws′ : List ℕ} (cs : List Call) (calls : library.Calls ws cs ws′) where
+  pub library-two : Two cs
+  library-two = sequence-two cs (library-calls calls)
+
+  pub library-three : Three cs (packings (since cs))
+  library-three = sequence-three cs (library-calls calls)

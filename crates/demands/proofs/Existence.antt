@@ -25,18 +25,8 @@ use Rattle.buffers.specs.Post.{Unused}
 use Rattle.queue.specs.Calls.{Called, SlotsKept, Besides}
 use Rattle.queue.proofs.CheckLaws.{unlike}
 use Rattle.demands.specs.Histories.{Call, Made, accepted, History, first, next, inserts, once, packings}
+use Rattle.demands.specs.Existence.{sweeps, refusals, Exists}
 use Rattle.demands.proofs.MadeLaws.{called}
-
--- ---- what a history has in it
-
--- "If I now has 8, .. sweep": an accepted insert, 7 in I before and none afterwards, that did not pack
-abbrev pub sweeps : {cs : List Call} {ws : List ℕ} → History cs ws → ℕ
-sweeps (first ws ws′ c b made) = 0
-sweeps (next ws ws′ c cs before made) = once (eqb (inserts (c ∷ [])) 1 and not (c .packed) and eqb (countOf ws 0) 7 and eqb (countOf ws′ 0) 0) + sweeps before
-
-abbrev pub refusals : List Call → ℕ
-refusals [] = 0
-refusals (c ∷ cs) = once (not (accepted c)) + refusals cs
 
 -- ---- the words of a queue of one link: where the rules leave them open, start places, marks and free slots, they are 0
 
@@ -299,18 +289,9 @@ all-fit : T (allFit begun orders)
 unfolding allFit begun orders base
 all-fit = tt
 
--- calls that have a history, the words that they left, and what is in it
-pub record Seen : Type 0 where
-  pub calls : List Call
-  pub left : List ℕ
-  pub history : History calls left
-  pub swept : sweeps history ≡ 2
-  pub packed : packings calls ≡ 1
-  pub refused : refusals calls ≡ 1
-
-pub histories-exist : Seen
+pub computed : Exists
 unfolding begun orders callsFrom goes-on setup-begins base
-histories-exist = record {
+computed = record {
   calls = callsFrom begun theSetup orders;
   left = wordsOf (queueFrom begun orders);
   history = goes-on begun theSetup orders all-fit setup-begins;

@@ -2,29 +2,36 @@
 use Prim.Native.Nat.{ℕ, zero, suc, _+_, _*_, _/_, _^_, _≤_, _<_}
 use mathlib.Core.Path.{_≡_, refl, sym, ap, _∙_, subst}
 use mathlib.Core.Bool.{Bool, true, false}
-use mathlib.Core.List.{List, [], _∷_, _++_, map}
+use mathlib.Core.List.{List, [], _∷_, _++_, map, flatten}
 use native.Mathlib.Omega.{arith}
 use native.Mathlib.Decide.{decLt}
 use native.Mathlib.Nat.{mul-le-mul-left}
 use borrow.Author.Tests.{eq-eqb}
 use lib.Dec.{T, eqb, eqb→eq, lit≤}
-use lib.ListN.{length, drop}
+use lib.ListN.{length, drop, length-map}
 use Rattle.rules.specs.Links.{s, most}
 use Rattle.rules.specs.Book.{isLinkNumber}
 use Rattle.rules.specs.Entries.{wholeWord}
 use Rattle.rules.specs.Tests.{_or_}
 use Rattle.rules.specs.Examples.{Order, setupOf, insertOf, takeIt, lookAt, heldNow, auditIt}
 use Rattle.frames.specs.Digits.{number, digits}
+use Rattle.frames.specs.Frames.{readOf}
 use Rattle.frames.proofs.DigitLaws.{number-digits}
-use Rattle.demands.specs.Histories.{Call, accepted, begins, linksOf, Sequence, hasSetup, fromSetup, since, links, brought, handed, ifDone, putIn, takenOut, inserts, takes, once, packings, steps, times, StillHeld, Smallest}
+use Rattle.lines.specs.Lines.{linesOf, ordersOf}
+use Rattle.sessions.specs.Runs.{Runs}
+use Rattle.sessions.specs.Pieces.{Session}
+use Rattle.sessions.proofs.RunLaws.{runs-long}
+use Rattle.sessions.proofs.SameAnswers.{session-answers}
+use Rattle.demands.specs.Histories.{Call, accepted, begins, linksOf, Sequence, none, hasSetup, fromSetup, since, links, brought, handed, ifDone, putIn, takenOut, inserts, takes, once, packings, steps, times, StillHeld, Smallest}
 use Rattle.demands.specs.Bounds.{perInsert, perPacking, stepsBound}
 use Rattle.demands.specs.Asked.{Second, Two, Three}
+use Rattle.demands.specs.Told.{seen, told, Tells}
 use Rattle.demands.proofs.HistoryLaws.{stands}
 use Rattle.demands.proofs.BoundLaws.{of-four}
 use Rattle.demands.proofs.AnswerLaws.{at-most}
 use Rattle.demands.proofs.SequenceLaws.{from-setup}
 use Rattle.demands.proofs.AskedLaws.{from-last, Before, cut-at, sequence-two, sequence-three}
-use Rattle.demands.proofs.ToldLaws.{seen, SmallOrder, EachSmall}
+use Rattle.demands.proofs.ToldLaws.{SmallOrder, EachSmall, lines-fit, TellsSoFar, run-tells}
 
 -- ---- the same setups, inserts and steps
 
@@ -247,3 +254,24 @@ module _ {ws ws′ : List ℕ} (cs : List Call) (calls : Sequence ws cs ws′) (
         (omega (arith, steps-seen (since cs), z .bounded had, more-packings (links cs) (inserts (since cs)) (packings (since cs)) (inserts (since cs) / s (links cs)) (z .few had))));
     few = λ has. omega arith;
   }
+
+-- ---- a session
+
+module _ {ws ws′ work work′ out : List ℕ} (pieces : List (List ℕ)) (session : Session (length work) ws work [] pieces ws′ work′ out) where
+  abbrev input : List ℕ
+  input = flatten pieces
+
+  run : Runs (length work) ws work (ordersOf input) ws′ work′ out
+  run = session-answers pieces session
+
+  so-far : TellsSoFar (length work) ws ws′ work′ (told (length work) input out)
+  so-far = run-tells ws [] run (lines-fit (linesOf input)) (record { calls = []; sequence = none; tells = refl; small = tt; long = refl })
+
+  pub session-tells : Tells (length work) ws ws′ input out
+  session-tells = record { calls = so-far .calls; made = so-far .sequence; tells = so-far .tells; one-each = runs-long run ∙ ap (λ n. 27 * n) (length-map (linesOf input) readOf) }
+
+  pub session-two : Two (told (length work) input out)
+  session-two = subst Two (sym (so-far .tells)) (seen-two (so-far .calls) (so-far .sequence) (so-far .small))
+
+  pub session-three : let calls = told (length work) input out in Three calls (inserts (since calls) / s (links calls))
+  session-three = subst (λ calls. Three calls (inserts (since calls) / s (links calls))) (sym (so-far .tells)) (seen-three (so-far .calls) (so-far .sequence) (so-far .small))

@@ -33,7 +33,7 @@ use Rattle.queue.proofs.CheckLaws.{unlike}
 use Rattle.sessions.specs.Runs as sessions
 use Rattle.sessions.specs.Runs.{asked, orderCall, valuesCall, After, Left, Runs, ends, goes}
 use Rattle.demands.specs.Histories.{Call, Made, Sequence, more}
-use Rattle.demands.specs.Told.{toldBy, oneMore, toldAfter}
+use Rattle.demands.specs.Told.{toldBy, oneMore, toldAfter, seen}
 use Rattle.demands.proofs.MadeLaws.{besides-inside}
 use Rattle.demands.proofs.DigitLaws.{eight-digits}
 
@@ -51,10 +51,6 @@ module _ (a w s : ℕ) where
   line-steps : take 8 (drop 18 (answerLine a w s)) ≡ digits 8 s
   unfolding digits
   line-steps = refl
-
--- a call as its answer line tells it: sixteen digits of the word, and nothing of a packing
-unfoldable pub seen : Call → Call
-seen c = record { order = c .order; work = c .work; answer = c .answer; word = number (digits 16 (c .word)); steps = c .steps; packed = false }
 
 abbrev callOf : ℕ → Order → rules.Outcome → Call
 callOf n o out = record { order = asked o; work = n; answer = out .answer; word = out .word; steps = out .steps; packed = out .packed }
@@ -115,16 +111,16 @@ lines-fit (l ∷ ls) = (line-fits l, lines-fit ls)
 -- ---- a line more
 
 -- calls on an array that was ws₀ at first and is ws now, of which these are told; the work area has n words
-record Tells (n : ℕ) (ws₀ ws work : List ℕ) (told : List Call) : Type 0 where
-  calls : List Call
-  sequence : Sequence ws₀ calls ws
-  tells : told ≡ map seen calls
-  small : EachSmall calls
-  long : length work ≡ n
+pub record TellsSoFar (n : ℕ) (ws₀ ws work : List ℕ) (told : List Call) : Type 0 where
+  pub calls : List Call
+  pub sequence : Sequence ws₀ calls ws
+  pub tells : told ≡ map seen calls
+  pub small : EachSmall calls
+  pub long : length work ≡ n
 
 one-more : (n : ℕ) (ws₀ ws next work left : List ℕ) (values : List Order) (told : List Call) → After ws next (valuesCall n values (lentOf ws))
-    → Left values ws next work left (valuesCall n values (lentOf ws) .answer) → FitsFirst values → Tells n ws₀ ws work told
-    → Tells n ws₀ next left (oneMore n values (sessions.answerOf (valuesCall n values (lentOf ws))) told)
+    → Left values ws next work left (valuesCall n values (lentOf ws) .answer) → FitsFirst values → TellsSoFar n ws₀ ws work told
+    → TellsSoFar n ws₀ next left (oneMore n values (sessions.answerOf (valuesCall n values (lentOf ws))) told)
 unfolding valuesCall orderCall oneMore isDone rules.refused
 one-more n ws₀ ws next work left [] told after leaves fits t = record {
   calls = t .calls;
@@ -154,8 +150,8 @@ first-line a w s bytes = take-at (answerLine a w s) bytes 27 (answer-long a w s)
 other-lines : (a w s : ℕ) (bytes : List ℕ) → drop 27 (answerLine a w s ++ bytes) ≡ bytes
 other-lines a w s bytes = drop-at (answerLine a w s) bytes 27 (answer-long a w s)
 
-run-tells : {n : ℕ} {ws work ws′ work′ bytes : List ℕ} {reads : List (Back Order)} (ws₀ : List ℕ) (told : List Call) → Runs n ws work reads ws′ work′ bytes → EachFits reads
-    → Tells n ws₀ ws work told → Tells n ws₀ ws′ work′ (toldAfter n reads bytes told)
+pub run-tells : {n : ℕ} {ws work ws′ work′ bytes : List ℕ} {reads : List (Back Order)} (ws₀ : List ℕ) (told : List Call) → Runs n ws work reads ws′ work′ bytes → EachFits reads
+    → TellsSoFar n ws₀ ws work told → TellsSoFar n ws₀ ws′ work′ (toldAfter n reads bytes told)
 unfolding toldAfter
 run-tells ws₀ told (ends ws work) fits t = t
 run-tells {n} ws₀ told (goes ws work next left ws′ work′ read reads bytes after leaves run) fits t =
@@ -164,4 +160,4 @@ run-tells {n} ws₀ told (goes ws work next left ws′ work′ read reads bytes 
     let first = first-line (numberOf (out .answer)) (out .word) (out .steps) bytes in
     let others = other-lines (numberOf (out .answer)) (out .word) (out .steps) bytes in
     let now = one-more n ws₀ ws next work left (read .values) told after leaves (fits .0) t in
-    subst (Tells n ws₀ ws′ work′) (λ i. toldAfter n reads (sym others i) (oneMore n (read .values) (sym first i) told)) (run-tells ws₀ (oneMore n (read .values) line told) run (fits .1) now)
+    subst (TellsSoFar n ws₀ ws′ work′) (λ i. toldAfter n reads (sym others i) (oneMore n (read .values) (sym first i) told)) (run-tells ws₀ (oneMore n (read .values) line told) run (fits .1) now)

@@ -33,7 +33,7 @@ use Rattle.queue.proofs.CheckLaws.{unlike}
 use Rattle.queue.proofs.CallLaws.{each-same}
 use Rattle.queue.proofs.AgreeLaws.{the-answer}
 use Rattle.demands.specs.Histories.{Call, Made, accepted}
-use Rattle.demands.specs.Unread.{SameUpTo}
+use Rattle.demands.specs.Unread.{SameUpTo, MadeSame}
 
 -- ---- what arrays with the same words up to the stated length say
 
@@ -251,15 +251,6 @@ pub call-unread : (ws vs : List ℕ) → SameUpTo ws vs → (work : ℕ) (order 
 call-unread ws vs same work order = call-same (lentOf ws) (lentOf vs) (unread-alike ws vs same) work order
 
 -- ---- calls that were made
-
--- the same came back, and where they were accepted the same entries stand in every buffer
-pub record MadeSame (c d : Call) (ws′ vs′ : List ℕ) : Type 0 where
-  pub answers : c .answer ≡ d .answer
-  pub words : c .word ≡ d .word
-  pub steps : c .steps ≡ d .steps
-  pub packings : c .packed ≡ d .packed
-  pub queues : accepted c ≡ true → queueOf (lentOf ws′) ≡ queueOf (lentOf vs′)
-  pub buffers : accepted c ≡ true → buffersOf ws′ ≡ buffersOf vs′
 
 -- the answer is the rules' own
 answers-are : (ws ws′ : List ℕ) (c : Call) → Made ws c ws′ → c .answer ≡ call (c .work) (c .order) (lentOf ws) .answer

@@ -1,20 +1,21 @@
 -- What a session tells those at the gate: its lines, and the lines that answered them. Nothing else is looked at.
-use Prim.Native.Nat.{ℕ}
+use Prim.Native.Nat.{ℕ, _*_}
 use mathlib.Core.Path.{_≡_, refl}
 use mathlib.Core.Bool.{false}
-use mathlib.Core.List.{List, [], _∷_, _++_}
-use lib.ListN.{take, drop}
+use mathlib.Core.List.{List, [], _∷_, _++_, map}
+use lib.ListN.{length, take, drop}
+use Rattle.rules.specs.declared.Answer.the-variants.{Done, NoneHeld}
 use Rattle.rules.specs.Answers.{answerOf}
 use Rattle.rules.specs.Examples as orders
 use Rattle.frames.specs.Answers.{Back}
 use Rattle.frames.specs.AnswerLine.{answerLine}
-use Rattle.frames.specs.Digits.{number, numberAfter, valueOf, digits, digitOf}
-use Rattle.frames.specs.Frames.{readOf, whole}
+use Rattle.frames.specs.Digits.{number, numberAfter, valueOf, capital, digits, digitOf}
+use Rattle.frames.specs.Frames.{readOf}
 use Rattle.frames.specs.Orders.{orderOf}
 use Rattle.frames.specs.declared.Order.{Order}
-use Rattle.lines.specs.Lines.{ordersOf}
+use Rattle.lines.specs.Lines.{lineAfter, endedBy, endedWithin, leftBy, lastLine, linesOf, ordersOf}
 use Rattle.sessions.specs.Runs.{asked}
-use Rattle.demands.specs.Histories.{Call}
+use Rattle.demands.specs.Histories.{Call, Sequence}
 
 -- the call that a frame and its answer line tell: "answer, 2 digits (10 is 0A); word, 16; steps, 8"; of packings a line tells nothing
 unfoldable pub toldBy : ℕ → Order → List ℕ → Call
@@ -43,3 +44,23 @@ toldAfter n (read ∷ reads) out cs = toldAfter n reads (drop 27 out) (oneMore n
 -- all that a session with n words of work area has told, by what came in and what went out
 abbrev pub told : ℕ → List ℕ → List ℕ → List Call
 told n input out = toldAfter n (ordersOf input) out []
+
+-- a call as its answer line tells it: sixteen digits of its word, its steps whole, and nothing of a packing
+unfoldable pub seen : Call → Call
+seen c = record { order = c .order; work = c .work; answer = c .answer; word = number (digits 16 (c .word)); steps = c .steps; packed = false }
+
+-- what came in and went out tells calls that were made one after the other, and each line was answered by one line
+pub record Tells (n : ℕ) (ws ws′ input out : List ℕ) : Type 0 where
+  pub calls : List Call
+  pub made : Sequence ws calls ws′
+  pub tells : told n input out ≡ map seen calls
+  pub one-each : length out ≡ 27 * length (linesOf input)
+
+-- "0001", "zz", "03" and "02", answered 0, 10, 0 with an entry and two steps, and 6
+pub example : told 16 (48 ∷ 48 ∷ 48 ∷ 49 ∷ 10 ∷ 122 ∷ 122 ∷ 10 ∷ 48 ∷ 51 ∷ 10 ∷ 48 ∷ 50 ∷ 10 ∷ []) (answerLine 0 0 0 ++ answerLine 10 0 0 ++ answerLine 0 0x0000000701000001 2 ++ answerLine 6 0 0)
+    ≡ record { order = orders.takeIt; work = 16; answer = NoneHeld; word = 0; steps = 0; packed = false }
+    ∷ record { order = orders.lookAt; work = 16; answer = Done; word = 0x0000000701000001; steps = 2; packed = false }
+    ∷ record { order = orders.setupOf 1; work = 16; answer = Done; word = 0; steps = 0; packed = false }
+    ∷ []
+unfolding toldAfter readOf orderOf capital digits digitOf valueOf endedWithin endedBy lineAfter lastLine leftBy
+example = refl
