@@ -1,11 +1,10 @@
 -- Demands 2 and 3 hold of any calls one after the other on one array.
-use Prim.Native.Nat.{ℕ, _+_, _*_, _/_, _≤_, _<_}
-use mathlib.Core.Path.{_≡_, refl, sym, ap, _∙_, subst}
-use mathlib.Core.Bool.{true, false}
+use Prim.Native.Nat.{ℕ, _/_, _≤_}
+use mathlib.Core.Path.{subst}
 use mathlib.Core.List.{List, [], _∷_, _++_}
 use Rattle.rules.specs.Links.{s}
 use Rattle.rules.proofs.History.{packings-bound}
-use Rattle.demands.specs.Histories.{Call, Made, History, Sequence, none, more, hasSetup, fromSetup, since, links, putIn, takenOut, inserts, packings, steps, times}
+use Rattle.demands.specs.Histories.{Call, Made, History, Sequence, more, fromSetup, since, links, putIn, takenOut, inserts, packings, steps, times}
 use Rattle.demands.specs.Bounds.{stepsBound}
 use Rattle.demands.specs.Asked.{Second, Two, Three}
 use Rattle.demands.proofs.HistoryLaws.{stands}

@@ -2,7 +2,7 @@
 use Prim.Native.Nat.{ℕ, _+_, _-_, _≤_, _<_}
 use mathlib.Core.Path.{_≡_, refl, sym, ap, _∙_, subst}
 use mathlib.Core.Logic.{inl, inr}
-use mathlib.Core.Bool.{Bool, true, false, not}
+use mathlib.Core.Bool.{Bool, true, false}
 use mathlib.Core.List.{List, [], _∷_, _++_}
 use native.Mathlib.Omega.{arith}
 use lib.Dec.{T, eqb, eqb→eq}
@@ -20,12 +20,12 @@ use Rattle.rules.specs.Examples.{Order, setupOf, insertOf, takeIt, lookAt, held
 use Rattle.rules.proofs.Tests.{truth}
 use Rattle.rules.proofs.Table.{and-one, and-two}
 use Rattle.buffers.specs.Slots.{base}
-use Rattle.buffers.specs.Format.{countOf, bookOf, lentOf}
+use Rattle.buffers.specs.Format.{bookOf, lentOf}
 use Rattle.buffers.specs.Post.{Unused}
 use Rattle.queue.specs.Calls.{Called, SlotsKept, Besides}
 use Rattle.queue.proofs.CheckLaws.{unlike}
-use Rattle.demands.specs.Histories.{Call, Made, accepted, History, first, next, inserts, once, packings}
-use Rattle.demands.specs.Existence.{sweeps, refusals, Exists}
+use Rattle.demands.specs.Histories.{Call, Made, History, first, next, inserts}
+use Rattle.demands.specs.Existence.{Exists}
 use Rattle.demands.proofs.MadeLaws.{called}
 
 -- ---- the words of a queue of one link: where the rules leave them open, start places, marks and free slots, they are 0

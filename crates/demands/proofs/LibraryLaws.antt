@@ -2,13 +2,12 @@
 use Prim.Native.Nat.{ℕ}
 use mathlib.Core.Path.{_≡_, refl, sym, ap, _∙_}
 use mathlib.Core.Bool.{Bool, true, false}
-use mathlib.Core.List.{List, [], _∷_}
+use mathlib.Core.List.{List, []}
 use lib.ListN.{length}
 use Rattle.rules.specs.Answers.{numberOf, answerOf, isDone}
 use Rattle.rules.specs.Calls as rules
-use Rattle.rules.specs.Examples.{call}
 use Rattle.rules.proofs.AnswerLaws.{answer-again}
-use Rattle.buffers.specs.Format.{lentOf}
+use Rattle.buffers.specs.Format.{linksIn, lentOf}
 use Rattle.queue.specs.Calls as queue
 use Rattle.queue.specs.Calls.{WorkKept}
 use Rattle.queue.proofs.CheckLaws.{unlike}
@@ -16,6 +15,7 @@ use Rattle.gorgalhut.specs.Answered.{Answered, WorkLeft}
 use Rattle.demands.specs.Histories.{Call, Made, Sequence}
 use Rattle.demands.specs.Histories as histories
 use Rattle.demands.specs.Library.{Called, setup, insert, take, look, held, audit, Calls, none, more}
+use Rattle.demands.proofs.MadeLaws.{setup-made, insert-made, take-made, look-made, held-made, audit-made}
 use Rattle.demands.proofs.CallLaws.{setup-unpacked, take-unpacked, look-unpacked, held-unpacked, audit-unpacked}
 
 -- what came back by number is the rules' outcome
@@ -45,49 +45,19 @@ work-kept links number work work′ z =
     record { long = z .long; past = z .past; refused = λ no. z .refused (λ e. unlike (sym zero-done ∙ ap (λ n. isDone (answerOf n)) (sym e) ∙ no)) }
 
 pub library-made : {ws ws′ : List ℕ} {c : Call} → Called ws c ws′ → Made ws c ws′
-unfolding call
-library-made {ws} (setup ws′ links number word steps answered slots) = record {
-  called = answered-called ws ws′ (rules.setup links (lentOf ws)) number word steps false answered (sym (setup-unpacked (lentOf ws) links));
-  area = [];
-  left = [];
-  lent = refl;
-  besides = (slots, refl);
-}
-library-made {ws} (insert ws′ work work′ entry number word steps packed answered packs left) = record {
-  called = answered-called ws ws′ (rules.insert (length work) entry (lentOf ws)) number word steps packed answered packs;
-  area = work;
-  left = work′;
-  lent = refl;
-  besides = work-kept _ number work work′ left;
-}
-library-made {ws} (take ws′ number word steps answered) = record {
-  called = answered-called ws ws′ (rules.take (lentOf ws)) number word steps false answered (sym (take-unpacked (lentOf ws)));
-  area = [];
-  left = [];
-  lent = refl;
-  besides = refl;
-}
-library-made {ws} (look ws′ number word steps answered) = record {
-  called = answered-called ws ws′ (rules.look (lentOf ws)) number word steps false answered (sym (look-unpacked (lentOf ws)));
-  area = [];
-  left = [];
-  lent = refl;
-  besides = refl;
-}
-library-made {ws} (held number word steps answered) = record {
-  called = answered-called ws ws (rules.heldCall (lentOf ws)) number word steps false answered (sym (held-unpacked (lentOf ws)));
-  area = [];
-  left = [];
-  lent = refl;
-  besides = (refl, refl);
-}
-library-made {ws} (audit number word steps answered) = record {
-  called = answered-called ws ws (rules.audit (lentOf ws)) number word steps false answered (sym (audit-unpacked (lentOf ws)));
-  area = [];
-  left = [];
-  lent = refl;
-  besides = (refl, refl);
-}
+library-made {ws} (setup ws′ links number word steps z slots) =
+    setup-made ws ws′ [] (answerOf number) word steps false links (answered-called ws ws′ (rules.setup links (lentOf ws)) number word steps false z (sym (setup-unpacked (lentOf ws) links))) slots
+library-made {ws} (insert ws′ work work′ entry number word steps packed z packs left) =
+    insert-made ws ws′ work (answerOf number) word steps packed work′ entry (answered-called ws ws′ (rules.insert (length work) entry (lentOf ws)) number word steps packed z packs)
+    (work-kept (linksIn ws) number work work′ left)
+library-made {ws} (take ws′ number word steps z) =
+    take-made ws ws′ [] (answerOf number) word steps false (answered-called ws ws′ (rules.take (lentOf ws)) number word steps false z (sym (take-unpacked (lentOf ws))))
+library-made {ws} (look ws′ number word steps z) =
+    look-made ws ws′ [] (answerOf number) word steps false (answered-called ws ws′ (rules.look (lentOf ws)) number word steps false z (sym (look-unpacked (lentOf ws))))
+library-made {ws} (held number word steps z) =
+    held-made ws [] (answerOf number) word steps false (answered-called ws ws (rules.heldCall (lentOf ws)) number word steps false z (sym (held-unpacked (lentOf ws))))
+library-made {ws} (audit number word steps z) =
+    audit-made ws [] (answerOf number) word steps false (answered-called ws ws (rules.audit (lentOf ws)) number word steps false z (sym (audit-unpacked (lentOf ws))))
 
 -- and calls by the library are a sequence of calls
 pub library-calls : {ws ws′ : List ℕ} {cs : List Call} → Calls ws cs ws′ → Sequence ws cs ws′

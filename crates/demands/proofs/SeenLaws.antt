@@ -1,5 +1,5 @@
 -- Demands 2 and 3 hold of the calls that answer lines tell: sixteen digits of a word are enough after a setup, and they do not speak of packings.
-use Prim.Native.Nat.{ℕ, zero, suc, _+_, _*_, _/_, _^_, _≤_, _<_}
+use Prim.Native.Nat.{ℕ, _+_, _*_, _/_, _^_, _≤_, _<_}
 use mathlib.Core.Path.{_≡_, refl, sym, ap, _∙_, subst}
 use mathlib.Core.Bool.{Bool, true, false}
 use mathlib.Core.List.{List, [], _∷_, _++_, map, flatten}
@@ -11,7 +11,6 @@ use lib.Dec.{T, eqb, eqb→eq, lit≤}
 use lib.ListN.{length, drop, length-map}
 use Rattle.rules.specs.Links.{s, most}
 use Rattle.rules.specs.Book.{isLinkNumber}
-use Rattle.rules.specs.Entries.{wholeWord}
 use Rattle.rules.specs.Tests.{_or_}
 use Rattle.rules.specs.Examples.{Order, setupOf, insertOf, takeIt, lookAt, heldNow, auditIt}
 use Rattle.frames.specs.Digits.{number, digits}
@@ -23,7 +22,7 @@ use Rattle.sessions.specs.Pieces.{Session}
 use Rattle.sessions.proofs.RunLaws.{runs-long}
 use Rattle.sessions.proofs.SameAnswers.{session-answers}
 use Rattle.demands.specs.Histories.{Call, accepted, begins, linksOf, Sequence, none, hasSetup, fromSetup, since, links, brought, handed, ifDone, putIn, takenOut, inserts, takes, once, packings, steps, times, StillHeld, Smallest}
-use Rattle.demands.specs.Bounds.{perInsert, perPacking, stepsBound}
+use Rattle.demands.specs.Bounds.{perPacking, stepsBound}
 use Rattle.demands.specs.Asked.{Second, Two, Three}
 use Rattle.demands.specs.Told.{seen, told, Tells}
 use Rattle.demands.proofs.HistoryLaws.{stands}

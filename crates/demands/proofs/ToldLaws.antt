@@ -1,22 +1,18 @@
 -- A run of lines is a sequence of calls, lines answered 10 left out, and the answer lines tell of each call all but its packing.
-use Prim.Native.Nat.{ℕ, _+_, _*_, _/_, _^_, _≤_, _<_}
+use Prim.Native.Nat.{ℕ, _^_, _<_}
 use mathlib.Core.Path.{_≡_, refl, sym, ap, _∙_, subst}
-use mathlib.Core.Bool.{Bool, true, false}
-use mathlib.Core.List.{List, [], _∷_, _++_, map, append-assoc}
+use mathlib.Core.Bool.{false}
+use mathlib.Core.List.{List, [], _∷_, _++_, map}
 use native.Mathlib.Omega.{arith}
-use lib.Dec.{eqb}
 use lib.ListN.{length, take, drop}
 use lib.Seq.{take-at, drop-at}
-use Rattle.rules.specs.declared.Answer.{Answer}
-use Rattle.rules.specs.declared.Answer.the-variants.{NotAFrame}
 use Rattle.rules.specs.Answers.{numberOf, answerOf, isDone}
 use Rattle.rules.specs.Calls as rules
 use Rattle.rules.specs.Examples as orders
 use Rattle.rules.proofs.AnswerLaws.{answer-again, answer-few}
-use Rattle.frames.specs.Answers.{Back, done, refused}
+use Rattle.frames.specs.Answers.{Back, refused}
 use Rattle.frames.specs.AnswerLine.{answerLine}
 use Rattle.frames.specs.Digits.{number, digits}
-use Rattle.frames.specs.Entries.{wordOf}
 use Rattle.frames.specs.Frames.{readOf}
 use Rattle.frames.specs.Orders.{Fits}
 use Rattle.frames.specs.declared.Order.{Order}
@@ -28,8 +24,6 @@ use Rattle.frames.proofs.FrameLaws.{read-settled}
 use Rattle.frames.proofs.RoundTrip.{read-fits}
 use Rattle.frames.proofs.Laying.{answer-long}
 use Rattle.buffers.specs.Format.{lentOf}
-use Rattle.queue.specs.Calls.{Besides}
-use Rattle.queue.proofs.CheckLaws.{unlike}
 use Rattle.sessions.specs.Runs as sessions
 use Rattle.sessions.specs.Runs.{asked, orderCall, valuesCall, After, Left, Runs, ends, goes}
 use Rattle.demands.specs.Histories.{Call, Made, Sequence, more}
