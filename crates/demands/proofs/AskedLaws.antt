@@ -1,16 +1,16 @@
 -- Demands 2 and 3 hold of any calls one after the other on one array.
-use Prim.Native.Nat.{ℕ, _/_, _≤_}
+use Prim.Native.Nat.{ℕ, _+_, _/_, _≤_}
 use mathlib.Core.Path.{subst}
 use mathlib.Core.List.{List, [], _∷_, _++_}
-use Rattle.rules.specs.Links.{s}
+use Rattle.rules.specs.Links.{s, most}
 use Rattle.rules.proofs.History.{packings-bound}
-use Rattle.demands.specs.Histories.{Call, Made, History, Sequence, more, fromSetup, since, links, putIn, takenOut, inserts, packings, steps, times}
+use Rattle.demands.specs.Histories.{Call, Made, History, Sequence, more, fromSetup, since, links, putIn, takenOut, inserts, takes, packings, steps, times}
 use Rattle.demands.specs.Bounds.{stepsBound}
 use Rattle.demands.specs.Asked.{Second, Two, Three}
 use Rattle.demands.proofs.HistoryLaws.{stands}
-use Rattle.demands.proofs.BoundLaws.{few-steps}
+use Rattle.demands.proofs.BoundLaws.{few-steps, one-to-four}
 use Rattle.demands.proofs.SmallestLaws.{no-more, smallest-taken, smallest-seen}
-use Rattle.demands.proofs.AnswerLaws.{take-accepted, look-accepted, refused-empty, held-counts, audit-done-now, insert-accepted}
+use Rattle.demands.proofs.AnswerLaws.{take-accepted, look-accepted, refused-empty, held-counts, audit-done-now, insert-accepted, refused-insert, at-most}
 use Rattle.demands.proofs.SequenceLaws.{from-setup, since-same, links-same}
 
 -- ---- demand 2
@@ -24,6 +24,7 @@ second-next h c ws′ made = record {
   look-accepted = look-accepted h ws′ c made;
   take-refused = refused-empty h ws′ c made;
   insert-accepted = insert-accepted h ws′ c made;
+  insert-refused = refused-insert h ws′ c made;
   held-count = held-counts h ws′ c made;
   audit-done = audit-done-now h ws′ c made;
 }
@@ -49,6 +50,10 @@ sequence-two {ws} {ws′} cs calls = record {
       let b = cut-at later c earlier (subst (λ cs. Sequence ws cs ws′) e calls) in
       from-last (Second c) earlier (second-next (from-setup (b .calls) has) c (b .ws₂) (b .made));
   no-more = λ has. from-last (λ now l. (v : ℕ) → times v (takenOut now) ≤ times v (putIn now)) cs (no-more (from-setup calls has));
+  at-most = λ has.
+      let h = from-setup calls has in
+      let number = one-to-four (links (fromSetup cs)) (stands h .number) in
+      from-last (λ now l. (1 ≤ l) × (l ≤ 4) × (inserts now ≤ takes now + most l)) cs (number .0, number .1, at-most h);
 }
 
 -- ---- demand 3

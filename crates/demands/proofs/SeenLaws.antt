@@ -1,6 +1,7 @@
 -- Demands 2 and 3 hold of the calls that answer lines tell: sixteen digits of a word are enough after a setup, and they do not speak of packings.
 use Prim.Native.Nat.{ℕ, _+_, _*_, _/_, _^_, _≤_, _<_}
 use mathlib.Core.Path.{_≡_, refl, sym, ap, _∙_, subst}
+use mathlib.Core.Logic.{_⊎_}
 use mathlib.Core.Bool.{Bool, true, false}
 use mathlib.Core.List.{List, [], _∷_, _++_, map, flatten}
 use native.Mathlib.Omega.{arith}
@@ -10,6 +11,7 @@ use borrow.Author.Tests.{eq-eqb}
 use lib.Dec.{T, eqb, eqb→eq, lit≤}
 use lib.ListN.{length, drop, length-map}
 use Rattle.rules.specs.Links.{s, most}
+use Rattle.rules.specs.Entries.{door}
 use Rattle.rules.specs.Book.{isLinkNumber}
 use Rattle.rules.specs.Tests.{_or_}
 use Rattle.rules.specs.Examples.{Order, setupOf, insertOf, takeIt, lookAt, heldNow, auditIt}
@@ -161,6 +163,9 @@ module _ (c : Call) (now : List Call) (l : ℕ) (small : Small (putIn now)) (out
     look-accepted = λ is v h. z .look-accepted is v (still v h);
     take-refused = λ is no. let e = z .take-refused is no in (e .0, λ v. ap (times v) outs ∙ e .1 v ∙ sym (ap (times v) (put-seen now)));
     insert-accepted = λ e is work door less. z .insert-accepted e is work door (omega (arith, ap length (put-seen now), ap length outs));
+    insert-refused = λ e is no.
+        subst (λ n. (c .work < most l) ⊎ (2 < door e) ⊎ (inserts (map seen now) ≡ n + most l)) (sym (ap length outs))
+        (subst (λ n. (c .work < most l) ⊎ (2 < door e) ⊎ (n ≡ takes now + most l)) (sym (ap length (put-seen now))) (z .insert-refused e is no));
     held-count = λ is.
         let e = z .held-count is in
         (e .0, omega (arith, ap length (put-seen now), ap length outs, e .1, number-digits 16 (c .word) (omega (arith, e .1))));
@@ -235,6 +240,11 @@ module _ {ws ws′ : List ℕ} (cs : List Call) (calls : Sequence ws cs ws′) (
         let had : hasSetup cs ≡ true = sym (has-seen cs) ∙ has in
         since-told (λ now l. (v : ℕ) → times v (takenOut now) ≤ times v (putIn now)) cs (λ v.
         omega (arith, ap (times v) (outs cs calls each-small had), ap (times v) (put-seen (since cs)), sequence-two cs calls .no-more had v));
+    at-most = λ has.
+        let had : hasSetup cs ≡ true = sym (has-seen cs) ∙ has in
+        let z = sequence-two cs calls .at-most had in
+        since-told (λ now l. (1 ≤ l) × (l ≤ 4) × (inserts now ≤ takes now + most l)) cs
+        (z .0, z .1, omega (arith, z .2, ap length (outs cs calls each-small had), ap length (put-seen (since cs))));
   }
 
   -- ---- demand 3: whatever packed, it was not more often than the bound says

@@ -4,7 +4,8 @@ use mathlib.Core.Path.{_≡_, refl}
 use mathlib.Core.Bool.{false}
 use mathlib.Core.List.{List, [], _∷_, _++_, map}
 use lib.ListN.{length, take, drop}
-use Rattle.rules.specs.declared.Answer.the-variants.{Done, NoneHeld}
+use Rattle.rules.specs.declared.Answer.{Answer}
+use Rattle.rules.specs.declared.Answer.the-variants.{Done, NoneHeld, DoorAbove}
 use Rattle.rules.specs.Answers.{answerOf}
 use Rattle.rules.specs.Examples as orders
 use Rattle.frames.specs.Answers.{Back}
@@ -64,3 +65,26 @@ pub example : told 16 (48 ∷ 48 ∷ 48 ∷ 49 ∷ 10 ∷ 122 ∷ 122 ∷ 10 ∷
     ∷ []
 unfolding toldAfter readOf orderOf capital digits digitOf valueOf endedWithin endedBy lineAfter lastLine leftBy
 example = refl
+
+-- so many digits, and the line end
+abbrev line : ℕ → ℕ → List ℕ
+line k n = digits k n ++ (10 ∷ [])
+
+-- the document's session "In whole", left and right, and what it tells with 960 words of work area
+pub inWhole : let telling : orders.Order → Answer → ℕ → Call = λ order answer word. record { order = order; work = 960; answer = answer; word = word; steps = 0; packed = false } in
+    told 960
+    (line 4 0x0001 ++ line 18 0x010000000302000007 ++ line 18 0x010000000301000007 ++ line 2 0x03 ++ line 2 0x02 ++ line 2 0x04 ++ line 2 0x02 ++ line 2 0x02 ++ line 18 0x010000000303000000)
+    (line 26 0x00000000000000000000000000 ++ line 26 0x00000000000000000000000000 ++ line 26 0x00000000000000000000000000 ++ line 26 0x00000000030100000700000000 ++ line 26 0x00000000030100000700000000
+    ++ line 26 0x00000000000000000100000000 ++ line 26 0x00000000030200000700000000 ++ line 26 0x06000000000000000000000000 ++ line 26 0x07000000000000000000000000)
+    ≡ telling (orders.insertOf 0x0000000303000000) DoorAbove 0
+    ∷ telling orders.takeIt NoneHeld 0
+    ∷ telling orders.takeIt Done 0x0000000302000007
+    ∷ telling orders.heldNow Done 1
+    ∷ telling orders.takeIt Done 0x0000000301000007
+    ∷ telling orders.lookAt Done 0x0000000301000007
+    ∷ telling (orders.insertOf 0x0000000301000007) Done 0
+    ∷ telling (orders.insertOf 0x0000000302000007) Done 0
+    ∷ telling (orders.setupOf 1) Done 0
+    ∷ []
+unfolding toldAfter readOf orderOf capital digits digitOf valueOf endedWithin endedBy lineAfter lastLine leftBy
+inWhole = refl
