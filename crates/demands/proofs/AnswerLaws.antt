@@ -150,14 +150,24 @@ module _ {cs : List Call} {ws : List ℕ} (h : History cs ws) where
     pub look-accepted : c .order ≡ lookAt → (v : ℕ) → StillHeld v (since cs) → c .answer ≡ Done
     look-accepted is v s = look-answers is .0 (still v s)
 
-    -- a take is refused where all has come out, exactly as often as it was put in
-    pub refused-empty : c .order ≡ takeIt → accepted c ≡ false → (c .answer ≡ NoneHeld) × ((v : ℕ) → times v (takenOut (since cs)) ≡ times v (putIn (since cs)))
+    -- all has come out, exactly as often as it was put in, and the answer is 6
+    abbrev EmptyNow : Type 0
+    EmptyNow = (c .answer ≡ NoneHeld) × ((v : ℕ) → times v (takenOut (since cs)) ≡ times v (putIn (since cs)))
+
+    -- a take or look is refused only there
+    only-empty : (0 < held q → c .answer ≡ Done) × (held q ≡ 0 → c .answer ≡ NoneHeld) → accepted c ≡ false → EmptyNow
     unfolding isDone
-    refused-empty is no-take = go (decLt 0 (held q))
+    only-empty answers refusal = go (decLt 0 (held q))
       where
-        go : Dec (0 < held q) → (c .answer ≡ NoneHeld) × ((v : ℕ) → times v (takenOut (since cs)) ≡ times v (putIn (since cs)))
-        go (yes some) = absurd (unlike (sym (ap isDone (take-answers is .0 some)) ∙ no-take))
-        go (no n) = let none : held q ≡ 0 = omega arith in (take-answers is .1 none, empty none)
+        go : Dec (0 < held q) → EmptyNow
+        go (yes some) = absurd (unlike (sym (ap isDone (answers .0 some)) ∙ refusal))
+        go (no n) = let none : held q ≡ 0 = omega arith in (answers .1 none, empty none)
+
+    pub refused-empty : c .order ≡ takeIt → accepted c ≡ false → EmptyNow
+    refused-empty is = only-empty (take-answers is)
+
+    pub refused-look : c .order ≡ lookAt → accepted c ≡ false → EmptyNow
+    refused-look is = only-empty (look-answers is)
 
     -- held says how many were put in and not handed out
     pub held-counts : c .order ≡ heldNow → (c .answer ≡ Done) × (takes (since cs) + c .word ≡ inserts (since cs))

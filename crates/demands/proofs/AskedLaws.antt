@@ -1,16 +1,17 @@
 -- Demands 2 and 3 hold of any calls one after the other on one array.
 use Prim.Native.Nat.{ℕ, _+_, _/_, _≤_}
-use mathlib.Core.Path.{subst}
+use mathlib.Core.Path.{_≡_, subst}
+use mathlib.Core.Bool.{true}
 use mathlib.Core.List.{List, [], _∷_, _++_}
 use Rattle.rules.specs.Links.{s, most}
 use Rattle.rules.proofs.History.{packings-bound}
-use Rattle.demands.specs.Histories.{Call, Made, History, Sequence, more, fromSetup, since, links, putIn, takenOut, inserts, takes, packings, steps, times}
+use Rattle.demands.specs.Histories.{Call, Made, History, Sequence, more, hasSetup, fromSetup, since, links, putIn, takenOut, inserts, takes, packings, steps, times}
 use Rattle.demands.specs.Bounds.{stepsBound}
-use Rattle.demands.specs.Asked.{Second, Two, Three}
+use Rattle.demands.specs.Asked.{Second, Held, Third, AtAnyTime, Two, Three, Reports}
 use Rattle.demands.proofs.HistoryLaws.{stands}
 use Rattle.demands.proofs.BoundLaws.{few-steps, one-to-four}
 use Rattle.demands.proofs.SmallestLaws.{no-more, smallest-taken, smallest-seen}
-use Rattle.demands.proofs.AnswerLaws.{take-accepted, look-accepted, refused-empty, held-counts, audit-done-now, insert-accepted, refused-insert, at-most}
+use Rattle.demands.proofs.AnswerLaws.{all-out, at-most, take-accepted, look-accepted, refused-empty, refused-look, held-counts, audit-done-now, insert-accepted, refused-insert}
 use Rattle.demands.proofs.SequenceLaws.{from-setup, since-same, links-same}
 
 -- ---- demand 2
@@ -23,6 +24,7 @@ second-next h c ws′ made = record {
   take-accepted = take-accepted h ws′ c made;
   look-accepted = look-accepted h ws′ c made;
   take-refused = refused-empty h ws′ c made;
+  look-refused = refused-look h ws′ c made;
   insert-accepted = insert-accepted h ws′ c made;
   insert-refused = refused-insert h ws′ c made;
   held-count = held-counts h ws′ c made;
@@ -40,30 +42,62 @@ pub record Before (ws : List ℕ) (c : Call) (earlier : List Call) : Type 0 wher
   pub calls : Sequence ws earlier ws₁
   pub made : Made ws₁ c ws₂
 
+-- the calls up to some time
+pub record UpTo (ws : List ℕ) (earlier : List Call) : Type 0 where
+  pub left : List ℕ
+  pub calls : Sequence ws earlier left
+
+pub up-to : {ws ws′ : List ℕ} (later earlier : List Call) → Sequence ws (later ++ earlier) ws′ → UpTo ws earlier
+up-to {ws′ = ws′} [] earlier calls = record { left = ws′; calls = calls }
+up-to (d ∷ later) earlier (more ws₁ ws₂ d′ cs calls made) = up-to later earlier calls
+
 pub cut-at : {ws ws′ : List ℕ} (later : List Call) (c : Call) (earlier : List Call) → Sequence ws (later ++ c ∷ earlier) ws′ → Before ws c earlier
-cut-at [] c earlier (more ws₁ ws₂ c′ cs calls made) = record { ws₁ = ws₁; ws₂ = ws₂; calls = calls; made = made }
-cut-at (d ∷ later) c earlier (more ws₁ ws₂ d′ cs calls made) = cut-at later c earlier calls
+cut-at later c earlier calls = last (up-to later (c ∷ earlier) calls .calls)
+  where
+    last : {ws ws′ : List ℕ} → Sequence ws (c ∷ earlier) ws′ → Before ws c earlier
+    last (more ws₁ ws₂ c′ cs calls made) = record { ws₁ = ws₁; ws₂ = ws₂; calls = calls; made = made }
+
+-- what holds at the end of every sequence of calls holds at any time
+pub any-time : {ws ws′ : List ℕ} (P : List Call → ℕ → Type 0) (cs : List Call) → Sequence ws cs ws′ → ((left : List ℕ) (ds : List Call) → Sequence ws ds left → hasSetup ds ≡ true → P (since ds) (links ds))
+    → AtAnyTime cs P
+any-time {ws} {ws′} P cs calls at-end later earlier e has =
+    let u = up-to later earlier (subst (λ cs. Sequence ws cs ws′) e calls) in
+    at-end (u .left) earlier (u .calls) has
+
+-- what holds of histories holds at the end of a sequence
+ends-so : {ws ws′ : List ℕ} (P : List Call → ℕ → Type 0) (cs : List Call) → Sequence ws cs ws′ → hasSetup cs ≡ true → (History (fromSetup cs) ws′ → P (since (fromSetup cs)) (links (fromSetup cs)))
+    → P (since cs) (links cs)
+ends-so P cs calls has so = from-last P cs (so (from-setup calls has))
+
+held-so : {ws : List ℕ} (cs : List Call) → History cs ws → Held (since cs) (links cs)
+held-so cs h =
+    let number = one-to-four (links cs) (stands h .number) in
+    record { no-more = no-more h; exactly = all-out h; one = number .0; four = number .1; at-most = at-most h }
+
+pub sequence-held : {ws ws′ : List ℕ} (cs : List Call) → Sequence ws cs ws′ → hasSetup cs ≡ true → Held (since cs) (links cs)
+sequence-held cs calls has = ends-so Held cs calls has (held-so (fromSetup cs))
 
 pub sequence-two : {ws ws′ : List ℕ} (cs : List Call) → Sequence ws cs ws′ → Two cs
 sequence-two {ws} {ws′} cs calls = record {
   each = λ later c earlier e has.
       let b = cut-at later c earlier (subst (λ cs. Sequence ws cs ws′) e calls) in
       from-last (Second c) earlier (second-next (from-setup (b .calls) has) c (b .ws₂) (b .made));
-  no-more = λ has. from-last (λ now l. (v : ℕ) → times v (takenOut now) ≤ times v (putIn now)) cs (no-more (from-setup calls has));
-  at-most = λ has.
-      let h = from-setup calls has in
-      let number = one-to-four (links (fromSetup cs)) (stands h .number) in
-      from-last (λ now l. (1 ≤ l) × (l ≤ 4) × (inserts now ≤ takes now + most l)) cs (number .0, number .1, at-most h);
+  always = any-time Held cs calls (λ left ds before has. sequence-held ds before has);
 }
 
 -- ---- demand 3
 
-pub sequence-three : {ws ws′ : List ℕ} (cs : List Call) → Sequence ws cs ws′ → Three cs (packings (since cs))
-sequence-three cs calls = record {
-  bounded = λ has.
-      let h = from-setup calls has in
-      from-last (λ now l. steps now ≤ stepsBound l (inserts now) (packings now)) cs (few-steps (links (fromSetup cs)) (stands h .number) (stands h .goes));
-  few = λ has.
-      let h = from-setup calls has in
-      from-last (λ now l. packings now ≤ inserts now / s l) cs (packings-bound (links (fromSetup cs)) (stands h .number) (stands h .goes));
-}
+pub sequence-third : {ws ws′ : List ℕ} (cs : List Call) → Sequence ws cs ws′ → hasSetup cs ≡ true → Third (since cs) (links cs) (packings (since cs))
+sequence-third cs calls has =
+    ends-so (λ now l. Third now l (packings now)) cs calls has (λ h. record {
+      bounded = few-steps (links (fromSetup cs)) (stands h .number) (stands h .goes);
+      few = packings-bound (links (fromSetup cs)) (stands h .number) (stands h .goes);
+    })
+
+pub sequence-three : {ws ws′ : List ℕ} (cs : List Call) → Sequence ws cs ws′ → Three cs (λ now l. packings now)
+sequence-three cs calls = any-time (λ now l. Third now l (packings now)) cs calls (λ left ds before has. sequence-third ds before has)
+
+pub sequence-reports : {ws ws′ : List ℕ} (cs : List Call) → Sequence ws cs ws′ → (later : List Call) (c : Call) (earlier : List Call) → cs ≡ later ++ c ∷ earlier → Reports ws c earlier
+sequence-reports {ws} {ws′} cs calls later c earlier e =
+    let b = cut-at later c earlier (subst (λ cs. Sequence ws cs ws′) e calls) in
+    record { before = b .ws₁; calls = b .calls; steps-are = b .made .called .steps-are }

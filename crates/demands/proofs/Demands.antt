@@ -29,9 +29,10 @@ use Rattle.demands.specs.Exact.{Answers}
 use Rattle.demands.specs.Bounds.{stepsBound}
 use Rattle.demands.specs.Tallies.{tallyAfter, sums}
 use Rattle.demands.specs.Unread.{SameUpTo, MadeSame}
-use Rattle.demands.specs.Asked.{Two, Three}
-use Rattle.demands.specs.Told.{told, Tells}
+use Rattle.demands.specs.Asked.{Two, Three, Reports}
+use Rattle.demands.specs.Told.{told, seen, Tells}
 use Rattle.demands.specs.Library as library
+use Rattle.demands.specs.LibraryFrames.{LibraryReads, LibraryWrites}
 use Rattle.demands.specs.Existence.{Exists}
 use Rattle.demands.proofs.HistoryLaws.{stands}
 use Rattle.demands.proofs.BoundLaws.{few-steps, four-rows, one-to-four}
@@ -45,8 +46,9 @@ use Rattle.demands.proofs.TallyLaws.{history-made, since-made, tallied,
 use Rattle.demands.proofs.FrameLaws.{Reads, Writes, read-back, write-back}
 use Rattle.demands.proofs.UnreadLaws.{made-unread}
 use Rattle.demands.proofs.Existence.{computed}
-use Rattle.demands.proofs.AskedLaws.{sequence-two, sequence-three}
+use Rattle.demands.proofs.AskedLaws.{sequence-two, sequence-three, sequence-reports}
 use Rattle.demands.proofs.LibraryLaws.{library-made, library-calls}
+use Rattle.demands.proofs.LibraryFrameLaws.{library-read-back, library-write-back}
 use Rattle.demands.proofs.SeenLaws.{session-tells, session-two, session-three}
 
 -- ---- demand 1: a call c on any words ws, which left the words ws′
@@ -81,7 +83,7 @@ pub outcomes-agree : (ws ws₁ ws₂ : List ℕ) (c d : Call) → c .order ≡ d
     → Agree ws₁ ws₂ (c .answer) (d .answer) (c .word) (d .word) (c .steps) (d .steps) (c .packed) (d .packed)
 outcomes-agree = made-agree
 
--- "Words past the stated length are never touched": nor are they read, nor is a word of the book that means nothing
+-- "Words past the stated length are never touched": nothing that comes back depends on them, nor on a word of the book that means nothing
 pub never-read : (ws vs ws′ vs′ : List ℕ) (c d : Call) → SameUpTo ws vs → c .order ≡ d .order → c .work ≡ d .work → Made ws c ws′ → Made vs d vs′ → MadeSame c d ws′ vs′
 never-read = made-unread
 
@@ -216,22 +218,35 @@ module _ {ws ws′ : List ℕ} (cs : List Call) (calls : Sequence ws cs ws′) w
   pub calls-two : Two cs
   calls-two = sequence-two cs calls
 
-  pub calls-three : Three cs (packings (since cs))
+  pub calls-three : Three cs (λ now l. packings now)
   calls-three = sequence-three cs calls
 
--- ---- of the answer lines that the program writes: any input in any pieces, over any array and work area, and what came out
+  pub calls-report : (later : List Call) (c : Call) (earlier : List Call) → cs ≡ later ++ c ∷ earlier → Reports ws c earlier
+  calls-report = sequence-reports cs calls
+
+-- ---- of the answer lines of a session: any input in any pieces, over any array and work area, and what came out
 
 module _ {ws ws′ work work′ out : List ℕ} (pieces : List (List ℕ)) (session : Session (length work) ws work [] pieces ws′ work′ out) where
-  -- a run of lines is a sequence of calls, lines answered 10 left out; of each its line tells answer, word and all digits of its steps
+  -- a run of lines is a sequence of calls, lines that are no frame left out: these and no others are answered 10; of each call its line tells answer, word and all digits of its steps
   pub lines-are-calls : Tells (length work) ws ws′ (flatten pieces) out
   lines-are-calls = session-tells pieces session
 
   pub lines-two : Two (told (length work) (flatten pieces) out)
   lines-two = session-two pieces session
 
-  -- lines do not tell of packings, so the bound is stated with the most that there can be: n divided by s(L), rounded down
-  pub lines-three : let cs = told (length work) (flatten pieces) out in Three cs (inserts (since cs) / s (links cs))
-  lines-three = session-three pieces session
+  -- P is the packings of the calls that the lines tell
+  pub lines-three : Three (lines-are-calls .calls) (λ now l. packings now)
+  lines-three = sequence-three (lines-are-calls .calls) (lines-are-calls .made)
+
+  -- by the lines alone, which do not tell of packings: with the most that there can be, n divided by s(L), rounded down
+  pub lines-three-alone : Three (told (length work) (flatten pieces) out) (λ now l. inserts now / s l)
+  lines-three-alone = session-three pieces session
+
+  pub lines-report : (later : List Call) (c : Call) (earlier : List Call) → lines-are-calls .calls ≡ later ++ c ∷ earlier → Reports ws (seen c) earlier
+  unfolding seen
+  lines-report later c earlier e =
+      let z = sequence-reports (lines-are-calls .calls) (lines-are-calls .made) later c earlier e in
+      record { before = z .before; calls = z .calls; steps-are = z .steps-are }
 
 -- ---- of calls by the library, from what C gets back
 
@@ -243,5 +258,17 @@ module _ {ws ws′ : List ℕ} (cs : List Call) (calls : library.Calls ws cs ws�
   pub library-two : Two cs
   library-two = sequence-two cs (library-calls calls)
 
-  pub library-three : Three cs (packings (since cs))
+  pub library-three : Three cs (λ now l. packings now)
   library-three = sequence-three cs (library-calls calls)
+
+  pub library-reports : (later : List Call) (c : Call) (earlier : List Call) → cs ≡ later ++ c ∷ earlier → Reports ws c earlier
+  library-reports = sequence-reports cs (library-calls calls)
+
+-- "A frame written and read again is the same frame, and the reverse."
+pub library-frame-read-again : (kind value : ℕ) (out out′ : List ℕ) (n number kind′ value′ : ℕ) → LibraryWrites kind value out out′ 0 n → LibraryReads (take n out′) number kind′ value′
+    → (number ≡ 0) × (kind′ ≡ kind) × (value′ ≡ value)
+library-frame-read-again = library-read-back
+
+pub library-frame-written-again : (line out out′ : List ℕ) (kind value number n : ℕ) → LibraryReads line 0 kind value → length line ≤ length out → LibraryWrites kind value out out′ number n
+    → (number ≡ 0) × (n ≡ length line) × (out′ ≡ line ++ drop (length line) out)
+library-frame-written-again = library-write-back

@@ -14,6 +14,7 @@ pub mod UnreadLaws
 pub mod Existence
 pub mod AskedLaws
 pub mod LibraryLaws
+pub mod LibraryFrameLaws
 pub mod ToldLaws
 pub mod SeenLaws
 pub mod Demands

@@ -25,14 +25,14 @@ use Rattle.sessions.proofs.RunLaws.{runs-long}
 use Rattle.sessions.proofs.SameAnswers.{session-answers}
 use Rattle.demands.specs.Histories.{Call, accepted, begins, linksOf, Sequence, none, hasSetup, fromSetup, since, links, brought, handed, ifDone, putIn, takenOut, inserts, takes, once, packings, steps, times, StillHeld, Smallest}
 use Rattle.demands.specs.Bounds.{perPacking, stepsBound}
-use Rattle.demands.specs.Asked.{Second, Two, Three}
+use Rattle.demands.specs.Asked.{Second, Held, Third, AtAnyTime, Two, Three}
 use Rattle.demands.specs.Told.{seen, told, Tells}
 use Rattle.demands.proofs.HistoryLaws.{stands}
 use Rattle.demands.proofs.BoundLaws.{of-four}
 use Rattle.demands.proofs.AnswerLaws.{at-most}
 use Rattle.demands.proofs.SequenceLaws.{from-setup}
-use Rattle.demands.proofs.AskedLaws.{from-last, Before, cut-at, sequence-two, sequence-three}
-use Rattle.demands.proofs.ToldLaws.{SmallOrder, EachSmall, lines-fit, TellsSoFar, run-tells}
+use Rattle.demands.proofs.AskedLaws.{from-last, Before, UpTo, up-to, cut-at, sequence-held, sequence-two, sequence-third}
+use Rattle.demands.proofs.ToldLaws.{SmallOrder, EachSmall, lines-fit, TellsSoFar, run-tells, run-answers}
 
 -- ---- the same setups, inserts and steps
 
@@ -154,6 +154,9 @@ module _ (c : Call) (now : List Call) (l : ℕ) (small : Small (putIn now)) (out
       let enough : c .word < 16 ^ 16 = small (c .word) (omega (arith, z .held)) in
       subst (λ w. Smallest w (map seen now)) (sym (number-digits 16 (c .word) enough)) (smallest-by (c .word) now (map seen now) (put-seen now) outs z)
 
+  as-often : ((v : ℕ) → times v (takenOut now) ≡ times v (putIn now)) → (v : ℕ) → times v (takenOut (map seen now)) ≡ times v (putIn (map seen now))
+  as-often e v = ap (times v) outs ∙ e v ∙ sym (ap (times v) (put-seen now))
+
   second-seen : Second c now l → Second (seen c) (map seen now) l
   unfolding seen
   second-seen z = record {
@@ -161,7 +164,8 @@ module _ (c : Call) (now : List Call) (l : ℕ) (small : Small (putIn now)) (out
     look-smallest = λ is done. smallest-seen (z .look-smallest is done);
     take-accepted = λ is v h. z .take-accepted is v (still v h);
     look-accepted = λ is v h. z .look-accepted is v (still v h);
-    take-refused = λ is no. let e = z .take-refused is no in (e .0, λ v. ap (times v) outs ∙ e .1 v ∙ sym (ap (times v) (put-seen now)));
+    take-refused = λ is no. let e = z .take-refused is no in (e .0, as-often (e .1));
+    look-refused = λ is no. let e = z .look-refused is no in (e .0, as-often (e .1));
     insert-accepted = λ e is work door less. z .insert-accepted e is work door (omega (arith, ap length (put-seen now), ap length outs));
     insert-refused = λ e is no.
         subst (λ n. (c .work < most l) ⊎ (2 < door e) ⊎ (inserts (map seen now) ≡ n + most l)) (sym (ap length outs))
@@ -182,14 +186,28 @@ module _ {ws ws′ : List ℕ} (cs : List Call) (calls : Sequence ws cs ws′) (
   puts = put-small (since cs) (since-small cs each-small)
 
   outs : takenOut (map seen (since cs)) ≡ takenOut (since cs)
-  outs = out-seen (since cs) ∙ all-again (takenOut (since cs)) (λ v g. puts v (omega (arith, sequence-two cs calls .no-more has v)))
+  outs = out-seen (since cs) ∙ all-again (takenOut (since cs)) (λ v g. puts v (omega (arith, sequence-held cs calls has .no-more v)))
 
   fit : inserts (since cs) ≤ takes (since cs) + 17280
   fit =
       let h = from-setup calls has in
       from-last (λ now l. inserts now ≤ takes now + 17280) cs (omega (arith, at-most h, few-held (links (fromSetup cs)) (stands h .number)))
 
--- a call among those told is a call as its line tells it
+-- those told up to some time are calls up to some time, each as its line tells it
+record Parted (cs earlier : List Call) : Type 0 where
+  later′ : List Call
+  earlier′ : List Call
+  whole : cs ≡ later′ ++ earlier′
+  before : map seen earlier′ ≡ earlier
+
+parted : (cs later earlier : List Call) → map seen cs ≡ later ++ earlier → Parted cs earlier
+parted cs [] earlier e = record { later′ = []; earlier′ = cs; whole = refl; before = e }
+parted [] (d ∷ later) earlier e = absurd (omega (arith, ap length e))
+parted (b ∷ cs) (d ∷ later) earlier e =
+    let z = parted cs later earlier (ap (drop 1) e) in
+    record { later′ = b ∷ z .later′; earlier′ = z .earlier′; whole = ap (λ cs. b ∷ cs) (z .whole); before = z .before }
+
+-- and a call among them is a call as its line tells it
 record Split (cs : List Call) (c : Call) (earlier : List Call) : Type 0 where
   later′ : List Call
   c′ : Call
@@ -204,28 +222,59 @@ firstOr c (d ∷ ds) = d
 
 split : (cs later : List Call) (c : Call) (earlier : List Call) → map seen cs ≡ later ++ c ∷ earlier → Split cs c earlier
 unfolding firstOr
-split [] [] c earlier e = absurd (omega (arith, ap length e))
-split [] (d ∷ later) c earlier e = absurd (omega (arith, ap length e))
-split (b ∷ cs) [] c earlier e = record { later′ = []; c′ = b; earlier′ = cs; whole = refl; same = ap (firstOr c) e; before = ap (drop 1) e }
-split (b ∷ cs) (d ∷ later) c earlier e =
-    let z = split cs later c earlier (ap (drop 1) e) in
-    record { later′ = b ∷ z .later′; c′ = z .c′; earlier′ = z .earlier′; whole = ap (λ cs. b ∷ cs) (z .whole); same = z .same; before = z .before }
+split cs later c earlier e = let z = parted cs later (c ∷ earlier) e in first (z .later′) (z .earlier′) (z .whole) (z .before)
+  where
+    first : (later′ rest : List Call) → cs ≡ later′ ++ rest → map seen rest ≡ c ∷ earlier → Split cs c earlier
+    first later′ [] whole before = absurd (omega (arith, ap length before))
+    first later′ (b ∷ rest) whole before = record { later′ = later′; c′ = b; earlier′ = rest; whole = whole; same = ap (firstOr c) before; before = ap (drop 1) before }
 
-small-before : (later : List Call) (c : Call) (earlier : List Call) → EachSmall (later ++ c ∷ earlier) → EachSmall earlier
-small-before [] c earlier h = h .1
-small-before (d ∷ later) c earlier h = small-before later c earlier (h .1)
+small-before : (later earlier : List Call) → EachSmall (later ++ earlier) → EachSmall earlier
+small-before [] earlier h = h
+small-before (d ∷ later) earlier h = small-before later earlier (h .1)
 
 -- what holds of the calls since the last setup, each as its line tells it
 since-told : (P : List Call → ℕ → Type 0) (cs : List Call) → P (map seen (since cs)) (links cs) → P (since (map seen cs)) (links (map seen cs))
 since-told P cs p = subst (λ now. P now (links (map seen cs))) (sym (since-seen cs)) (subst (P (map seen (since cs))) (sym (links-seen cs)) p)
 
+held-seen : (now : List Call) (l : ℕ) → takenOut (map seen now) ≡ takenOut now → Held now l → Held (map seen now) l
+held-seen now l outs z = record {
+  no-more = λ v. omega (arith, ap (times v) outs, ap (times v) (put-seen now), z .no-more v);
+  exactly = λ e v. ap (times v) outs ∙ z .exactly (sym (ap length outs) ∙ e ∙ ap length (put-seen now)) v ∙ sym (ap (times v) (put-seen now));
+  one = z .one;
+  four = z .four;
+  at-most = omega (arith, z .at-most, ap length outs, ap length (put-seen now));
+}
+
+-- whatever packed, it was not more often than the bound says
+more-packings : (l n p q : ℕ) → p ≤ q → stepsBound l n p ≤ stepsBound l n q
+unfolding stepsBound
+more-packings l n p q h = omega (arith, mul-le-mul-left (perPacking l) h)
+
+third-seen : (now : List Call) (l : ℕ) → Third now l (packings now) → Third (map seen now) l (inserts (map seen now) / s l)
+third-seen now l z = record {
+  bounded =
+      subst (λ es. steps (map seen now) ≤ stepsBound l (length es) (length es / s l)) (sym (put-seen now))
+      (omega (arith, steps-seen now, z .bounded, more-packings l (inserts now) (packings now) (inserts now / s l) (z .few)));
+  few = omega arith;
+}
+
 module _ {ws ws′ : List ℕ} (cs : List Call) (calls : Sequence ws cs ws′) (each-small : EachSmall cs) where
+  -- what holds at the end of every sequence of calls, as told, holds of those told at any time
+  any-time-told : (P : List Call → ℕ → Type 0) → ((left : List ℕ) (ds : List Call) → Sequence ws ds left → EachSmall ds → hasSetup ds ≡ true → P (map seen (since ds)) (links ds)) → AtAnyTime (map seen cs) P
+  any-time-told P at-end later earlier e has =
+      let z = parted cs later earlier e in
+      let f = z .earlier′ in
+      let had : hasSetup f ≡ true = sym (has-seen f) ∙ ap hasSetup (z .before) ∙ has in
+      let smalls : EachSmall f = small-before (z .later′) f (subst EachSmall (z .whole) each-small) in
+      let u : UpTo ws f = up-to (z .later′) f (subst (λ cs. Sequence ws cs ws′) (z .whole) calls) in
+      subst (λ earlier. P (since earlier) (links earlier)) (z .before) (since-told P f (at-end (u .left) f (u .calls) smalls had))
+
   each-seen : (later : List Call) (c : Call) (earlier : List Call) → map seen cs ≡ later ++ c ∷ earlier → hasSetup earlier ≡ true → Second c (since earlier) (links earlier)
   each-seen later c earlier e has =
       let z = split cs later c earlier e in
       let f = z .earlier′ in
       let had : hasSetup f ≡ true = sym (has-seen f) ∙ ap hasSetup (z .before) ∙ has in
-      let smalls : EachSmall f = small-before (z .later′) (z .c′) f (subst EachSmall (z .whole) each-small) in
+      let smalls : EachSmall f = small-before (z .later′) (z .c′ ∷ f) (subst EachSmall (z .whole) each-small) .1 in
       let b : Before ws (z .c′) f = cut-at (z .later′) (z .c′) f (subst (λ cs. Sequence ws cs ws′) (z .whole) calls) in
       let told : Second (seen (z .c′)) (map seen (since f)) (links f) =
       second-seen (z .c′) (since f) (links f) (puts f (b .calls) smalls had) (outs f (b .calls) smalls had) (fit f (b .calls) smalls had)
@@ -236,33 +285,11 @@ module _ {ws ws′ : List ℕ} (cs : List Call) (calls : Sequence ws cs ws′) (
   pub seen-two : Two (map seen cs)
   seen-two = record {
     each = each-seen;
-    no-more = λ has.
-        let had : hasSetup cs ≡ true = sym (has-seen cs) ∙ has in
-        since-told (λ now l. (v : ℕ) → times v (takenOut now) ≤ times v (putIn now)) cs (λ v.
-        omega (arith, ap (times v) (outs cs calls each-small had), ap (times v) (put-seen (since cs)), sequence-two cs calls .no-more had v));
-    at-most = λ has.
-        let had : hasSetup cs ≡ true = sym (has-seen cs) ∙ has in
-        let z = sequence-two cs calls .at-most had in
-        since-told (λ now l. (1 ≤ l) × (l ≤ 4) × (inserts now ≤ takes now + most l)) cs
-        (z .0, z .1, omega (arith, z .2, ap length (outs cs calls each-small had), ap length (put-seen (since cs))));
+    always = any-time-told Held (λ left ds before smalls has. held-seen (since ds) (links ds) (outs ds before smalls has) (sequence-held ds before has));
   }
 
-  -- ---- demand 3: whatever packed, it was not more often than the bound says
-
-  more-packings : (l n p q : ℕ) → p ≤ q → stepsBound l n p ≤ stepsBound l n q
-  unfolding stepsBound
-  more-packings l n p q h = omega (arith, mul-le-mul-left (perPacking l) h)
-
-  pub seen-three : let told = map seen cs in Three told (inserts (since told) / s (links told))
-  seen-three = record {
-    bounded = λ has.
-        let had : hasSetup cs ≡ true = sym (has-seen cs) ∙ has in
-        let z = sequence-three cs calls in
-        since-told (λ now l. steps now ≤ stepsBound l (inserts now) (inserts now / s l)) cs
-        (subst (λ es. steps (map seen (since cs)) ≤ stepsBound (links cs) (length es) (length es / s (links cs))) (sym (put-seen (since cs)))
-        (omega (arith, steps-seen (since cs), z .bounded had, more-packings (links cs) (inserts (since cs)) (packings (since cs)) (inserts (since cs) / s (links cs)) (z .few had))));
-    few = λ has. omega arith;
-  }
+  pub seen-three : Three (map seen cs) (λ now l. inserts now / s l)
+  seen-three = any-time-told (λ now l. Third now l (inserts now / s l)) (λ left ds before smalls has. third-seen (since ds) (links ds) (sequence-third ds before has))
 
 -- ---- a session
 
@@ -277,10 +304,10 @@ module _ {ws ws′ work work′ out : List ℕ} (pieces : List (List ℕ)) (sess
   so-far = run-tells ws [] run (lines-fit (linesOf input)) (record { calls = []; sequence = none; tells = refl; small = tt; long = refl })
 
   pub session-tells : Tells (length work) ws ws′ input out
-  session-tells = record { calls = so-far .calls; made = so-far .sequence; tells = so-far .tells; one-each = runs-long run ∙ ap (λ n. 27 * n) (length-map (linesOf input) readOf) }
+  session-tells = record { calls = so-far .calls; made = so-far .sequence; tells = so-far .tells; answers = run-answers run refl }
 
   pub session-two : Two (told (length work) input out)
   session-two = subst Two (sym (so-far .tells)) (seen-two (so-far .calls) (so-far .sequence) (so-far .small))
 
-  pub session-three : let calls = told (length work) input out in Three calls (inserts (since calls) / s (links calls))
-  session-three = subst (λ calls. Three calls (inserts (since calls) / s (links calls))) (sym (so-far .tells)) (seen-three (so-far .calls) (so-far .sequence) (so-far .small))
+  pub session-three : Three (told (length work) input out) (λ now l. inserts now / s l)
+  session-three = subst (λ calls. Three calls (λ now l. inserts now / s l)) (sym (so-far .tells)) (seen-three (so-far .calls) (so-far .sequence) (so-far .small))

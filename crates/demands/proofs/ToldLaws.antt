@@ -6,6 +6,8 @@ use mathlib.Core.List.{List, [], _∷_, _++_, map}
 use native.Mathlib.Omega.{arith}
 use lib.ListN.{length, take, drop}
 use lib.Seq.{take-at, drop-at}
+use Rattle.rules.specs.declared.Answer.{Answer}
+use Rattle.rules.specs.declared.Answer.the-variants.{Done, NoSuchLinks, ArrayShort, WorkShort, BookBroken, Full, NoneHeld, DoorAbove, NoPlace, OrderBroken, NotAFrame}
 use Rattle.rules.specs.Answers.{numberOf, answerOf, isDone}
 use Rattle.rules.specs.Calls as rules
 use Rattle.rules.specs.Examples as orders
@@ -17,7 +19,7 @@ use Rattle.frames.specs.Frames.{readOf}
 use Rattle.frames.specs.Orders.{Fits}
 use Rattle.frames.specs.declared.Order.{Order}
 use Rattle.frames.specs.declared.Order.the-variants.{Setup, Insert, Take, Look, Held, Audit}
-use Rattle.frames.proofs.DigitLaws.{number-digits}
+use Rattle.frames.proofs.DigitLaws.{length-digits, capital-digits, number-digits, digits-number}
 use Rattle.frames.proofs.EntryLaws.{word-below}
 use Rattle.frames.proofs.OrderLaws.{Settled, order, none}
 use Rattle.frames.proofs.FrameLaws.{read-settled}
@@ -27,7 +29,9 @@ use Rattle.buffers.specs.Format.{lentOf}
 use Rattle.sessions.specs.Runs as sessions
 use Rattle.sessions.specs.Runs.{asked, orderCall, valuesCall, After, Left, Runs, ends, goes}
 use Rattle.demands.specs.Histories.{Call, Made, Sequence, more}
-use Rattle.demands.specs.Told.{toldBy, oneMore, toldAfter, seen}
+use Rattle.demands.specs.Exact.{Answers}
+use Rattle.demands.specs.Told.{toldBy, oneMore, toldAfter, seen, AnswersLine, AnswersEach}
+use Rattle.demands.proofs.AnswerLaws.{made-exactly}
 use Rattle.demands.proofs.MadeLaws.{besides-inside}
 use Rattle.demands.proofs.DigitLaws.{eight-digits}
 
@@ -59,6 +63,17 @@ line-tells n o out few =
     let words : number (take 16 (drop 2 (sessions.answerOf out))) ≡ number (digits 16 (out .word)) = ap number (line-word a (out .word) (out .steps)) in
     let steps : number (take 8 (drop 18 (sessions.answerOf out))) ≡ out .steps = ap number (line-steps a (out .word) (out .steps)) ∙ number-digits 8 (out .steps) few in
     λ i. record { order = asked o; work = n; answer = answers i; word = words i; steps = steps i; packed = false }
+
+-- digits that were read and written again are the same
+digits-again : (k n : ℕ) → digits k (number (digits k n)) ≡ digits k n
+digits-again k n = subst (λ m. digits m (number (digits k n)) ≡ digits k n) (length-digits k n) (digits-number (digits k n) (capital-digits k n))
+
+line-again : (a w s : ℕ) → let line = answerLine a w s in line ≡ answerLine (number (take 2 line)) (number (take 16 (drop 2 line))) (number (take 8 (drop 18 line)))
+line-again a w s =
+    let answers : digits 2 a ≡ digits 2 (number (take 2 (answerLine a w s))) = sym (ap (λ ds. digits 2 (number ds)) (line-answer a w s) ∙ digits-again 2 a) in
+    let words : digits 16 w ≡ digits 16 (number (take 16 (drop 2 (answerLine a w s)))) = sym (ap (λ ds. digits 16 (number ds)) (line-word a w s) ∙ digits-again 16 w) in
+    let steps : digits 8 s ≡ digits 8 (number (take 8 (drop 18 (answerLine a w s)))) = sym (ap (λ ds. digits 8 (number ds)) (line-steps a w s) ∙ digits-again 8 s) in
+    λ i. answers i ++ words i ++ steps i ++ (10 ∷ [])
 
 -- ---- what frames bring
 
@@ -104,6 +119,11 @@ lines-fit (l ∷ ls) = (line-fits l, lines-fit ls)
 
 -- ---- a line more
 
+-- the work area keeps its length
+left-long : (values : List Order) (ws next work left : List ℕ) (answer : Answer) → Left values ws next work left answer → length left ≡ length work
+left-long [] ws next work left answer leaves = ap length (leaves .1)
+left-long (o ∷ os) ws next work left answer leaves = besides-inside (asked o) ws next work left answer leaves .0
+
 -- calls on an array that was ws₀ at first and is ws now, of which these are told; the work area has n words
 pub record TellsSoFar (n : ℕ) (ws₀ ws work : List ℕ) (told : List Call) : Type 0 where
   pub calls : List Call
@@ -121,7 +141,7 @@ one-more n ws₀ ws next work left [] told after leaves fits t = record {
   sequence = subst (Sequence ws₀ (t .calls)) (sym (leaves .0)) (t .sequence);
   tells = t .tells;
   small = t .small;
-  long = ap length (leaves .1) ∙ t .long;
+  long = left-long [] ws next work left NotAFrame leaves ∙ t .long;
 }
 one-more n ws₀ ws next work left (o ∷ os) told after leaves fits t =
     let out = orders.call n (asked o) (lentOf ws) in
@@ -132,7 +152,7 @@ one-more n ws₀ ws next work left (o ∷ os) told after leaves fits t =
       sequence = more ws next c (t .calls) (t .sequence) made;
       tells = λ i. line-tells n o out (eight-digits ws next c made) i ∷ t .tells i;
       small = (asked-small o fits, t .small);
-      long = besides-inside (asked o) ws next work left (out .answer) leaves .0 ∙ t .long;
+      long = left-long (o ∷ os) ws next work left (out .answer) leaves ∙ t .long;
     }
 
 -- ---- runs
@@ -155,3 +175,49 @@ run-tells {n} ws₀ told (goes ws work next left ws′ work′ read reads bytes 
     let others = other-lines (numberOf (out .answer)) (out .word) (out .steps) bytes in
     let now = one-more n ws₀ ws next work left (read .values) told after leaves (fits .0) t in
     subst (TellsSoFar n ws₀ ws′ work′) (λ i. toldAfter n reads (sym others i) (oneMore n (read .values) (sym first i) told)) (run-tells ws₀ (oneMore n (read .values) line told) run (fits .1) now)
+
+-- ---- the answer lines themselves
+
+-- no row of the table answers 10
+no-row : {work : ℕ} {a : rules.Lent} {order : orders.Order} → Answers work a order NotAFrame → ⊥
+no-row z = elim z [ ]
+
+-- so no call does
+never-ten : (ws next : List ℕ) (c : Call) → Made ws c next → numberOf (c .answer) < 10
+never-ten ws next c made = go (c .answer) refl
+  where
+    go : (answer : Answer) → c .answer ≡ answer → numberOf answer < 10
+    go Done e = omega arith
+    go NoSuchLinks e = omega arith
+    go ArrayShort e = omega arith
+    go WorkShort e = omega arith
+    go BookBroken e = omega arith
+    go Full e = omega arith
+    go NoneHeld e = omega arith
+    go DoorAbove e = omega arith
+    go NoPlace e = omega arith
+    go OrderBroken e = omega arith
+    go NotAFrame e = absurd (no-row (made-exactly ws next c made NotAFrame .0 e))
+
+line-answers : (n : ℕ) (ws next work left : List ℕ) (values : List Order) → After ws next (valuesCall n values (lentOf ws)) → Left values ws next work left (valuesCall n values (lentOf ws) .answer)
+    → length work ≡ n → AnswersLine values (sessions.answerOf (valuesCall n values (lentOf ws)))
+unfolding valuesCall orderCall rules.refused
+line-answers n ws next work left [] after leaves long = refl
+line-answers n ws next work left (o ∷ os) after leaves long =
+    let out = orders.call n (asked o) (lentOf ws) in
+    let made : Made ws (callOf n o out) next = record { called = after; area = work; left = left; lent = long; besides = leaves } in
+    let a = numberOf (out .answer) in
+    let low : a < 10 = never-ten ws next (callOf n o out) made in
+    let answers : number (take 2 (sessions.answerOf out)) ≡ a = ap number (line-answer a (out .word) (out .steps)) ∙ number-digits 2 a (omega arith) in
+    (line-again a (out .word) (out .steps), rw answers low)
+
+-- of each line of a run
+pub run-answers : {n : ℕ} {ws work ws′ work′ bytes : List ℕ} {reads : List (Back Order)} → Runs n ws work reads ws′ work′ bytes → length work ≡ n → AnswersEach reads bytes
+run-answers (ends ws work) long = refl
+run-answers {n} (goes ws work next left ws′ work′ read reads bytes after leaves run) long =
+    let out = valuesCall n (read .values) (lentOf ws) in
+    let first = first-line (numberOf (out .answer)) (out .word) (out .steps) bytes in
+    let others = other-lines (numberOf (out .answer)) (out .word) (out .steps) bytes in (
+      subst (AnswersLine (read .values)) (sym first) (line-answers n ws next work left (read .values) after leaves long),
+      subst (AnswersEach reads) (sym others) (run-answers run (left-long (read .values) ws next work left (out .answer) leaves ∙ long)),
+    )

@@ -7,9 +7,14 @@ use mathlib.Core.List.{List, _∷_, _++_}
 use Rattle.rules.specs.declared.Answer.the-variants.{Done, NoneHeld}
 use Rattle.rules.specs.Entries.{door}
 use Rattle.rules.specs.Links.{s, most}
-use Rattle.rules.specs.Examples.{insertOf, takeIt, lookAt, heldNow, auditIt}
-use Rattle.demands.specs.Histories.{Call, accepted, hasSetup, since, links, putIn, takenOut, inserts, takes, steps, times, StillHeld, Smallest}
+use Rattle.rules.specs.Examples.{insertOf, takeIt, lookAt, heldNow, auditIt, call}
+use Rattle.buffers.specs.Format.{lentOf}
+use Rattle.demands.specs.Histories.{Call, accepted, Sequence, hasSetup, since, links, putIn, takenOut, inserts, takes, steps, times, StillHeld, Smallest}
 use Rattle.demands.specs.Bounds.{stepsBound}
+
+-- each entry has come out as often as it was put in
+abbrev AsOften : List Call → Type 0
+AsOften now = (v : ℕ) → times v (takenOut now) ≡ times v (putIn now)
 
 -- of a call after these calls, all since a setup of l links
 pub record Second (c : Call) (earlier : List Call) (l : ℕ) : Type 0 where
@@ -20,8 +25,9 @@ pub record Second (c : Call) (earlier : List Call) (l : ℕ) : Type 0 where
   -- while something is still held, both are accepted
   pub take-accepted : c .order ≡ takeIt → (v : ℕ) → StillHeld v earlier → c .answer ≡ Done
   pub look-accepted : c .order ≡ lookAt → (v : ℕ) → StillHeld v earlier → c .answer ≡ Done
-  -- "once the queue is empty, exactly as often": a take is refused only then, and with 6
-  pub take-refused : c .order ≡ takeIt → accepted c ≡ false → (c .answer ≡ NoneHeld) × ((v : ℕ) → times v (takenOut earlier) ≡ times v (putIn earlier))
+  -- "once the queue is empty, exactly as often": a take or look is refused only then, and with 6
+  pub take-refused : c .order ≡ takeIt → accepted c ≡ false → (c .answer ≡ NoneHeld) × AsOften earlier
+  pub look-refused : c .order ≡ lookAt → accepted c ≡ false → (c .answer ≡ NoneHeld) × AsOften earlier
   -- an insert with its work area and a known door is accepted while fewer than H are held
   pub insert-accepted : (e : ℕ) → c .order ≡ insertOf e → most l ≤ c .work → door e ≤ 2 → inserts earlier < takes earlier + most l → c .answer ≡ Done
   -- and is refused for no other reason
@@ -31,14 +37,37 @@ pub record Second (c : Call) (earlier : List Call) (l : ℕ) : Type 0 where
   -- the order rule is never broken
   pub audit-done : c .order ≡ auditIt → c .answer ≡ Done
 
--- demand 2, of every call after an accepted setup; "no entry comes out more often than it was put in"
+-- of the calls since a setup of l links
+pub record Held (now : List Call) (l : ℕ) : Type 0 where
+  -- "no entry comes out more often than it was put in"
+  pub no-more : (v : ℕ) → times v (takenOut now) ≤ times v (putIn now)
+  -- "once the queue is empty, exactly as often"
+  pub exactly : takes now ≡ inserts now → AsOften now
+  -- "A queue of L links (1 to 4) holds at most H = k(L) x s(L) entries."
+  pub one : 1 ≤ l
+  pub four : l ≤ 4
+  pub at-most : inserts now ≤ takes now + most l
+
+-- of the same calls and p packings: "with n accepted inserts and P packings the steps total at most ..; P is at most n divided by s(L), rounded down"
+pub record Third (now : List Call) (l p : ℕ) : Type 0 where
+  pub bounded : steps now ≤ stepsBound l (inserts now) p
+  pub few : p ≤ inserts now / s l
+
+-- at any time after an accepted setup, of the calls since the last one and of its links
+abbrev pub AtAnyTime : List Call → (List Call → ℕ → Type 0) → Type 0
+AtAnyTime cs P = (later earlier : List Call) → cs ≡ later ++ earlier → hasSetup earlier ≡ true → P (since earlier) (links earlier)
+
+-- demand 2: of every call after an accepted setup, and at any time
 pub record Two (cs : List Call) : Type 0 where
   pub each : (later : List Call) (c : Call) (earlier : List Call) → cs ≡ later ++ c ∷ earlier → hasSetup earlier ≡ true → Second c (since earlier) (links earlier)
-  pub no-more : hasSetup cs ≡ true → (v : ℕ) → times v (takenOut (since cs)) ≤ times v (putIn (since cs))
-  -- "A queue of L links (1 to 4) holds at most H = k(L) x s(L) entries."
-  pub at-most : hasSetup cs ≡ true → (1 ≤ links cs) × (links cs ≤ 4) × (inserts (since cs) ≤ takes (since cs) + most (links cs))
+  pub always : AtAnyTime cs Held
 
--- demand 3, with P packings: "with n accepted inserts and P packings the steps total at most ..; P is at most n divided by s(L), rounded down"
-pub record Three (cs : List Call) (p : ℕ) : Type 0 where
-  pub bounded : hasSetup cs ≡ true → steps (since cs) ≤ stepsBound (links cs) (inserts (since cs)) p
-  pub few : hasSetup cs ≡ true → p ≤ inserts (since cs) / s (links cs)
+-- demand 3's bound at any time, with as many packings as said
+abbrev pub Three : List Call → (List Call → ℕ → ℕ) → Type 0
+Three cs packed = AtAnyTime cs (λ now l. Third now l (packed now l))
+
+-- demand 3: "the steps that each call reports are those of the rules", on the words that the calls before it left of ws
+pub record Reports (ws : List ℕ) (c : Call) (earlier : List Call) : Type 0 where
+  pub before : List ℕ
+  pub calls : Sequence ws earlier before
+  pub steps-are : c .steps ≡ call (c .work) (c .order) (lentOf before) .steps

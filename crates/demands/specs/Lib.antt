@@ -6,4 +6,5 @@ pub mod Unread
 pub mod Asked
 pub mod Told
 pub mod Library
+pub mod LibraryFrames
 pub mod Existence

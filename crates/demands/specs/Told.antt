@@ -1,9 +1,9 @@
 -- What a session tells those at the gate: its lines, and the lines that answered them. Nothing else is looked at.
-use Prim.Native.Nat.{ℕ, _*_}
+use Prim.Native.Nat.{ℕ, _<_}
 use mathlib.Core.Path.{_≡_, refl}
 use mathlib.Core.Bool.{false}
 use mathlib.Core.List.{List, [], _∷_, _++_, map}
-use lib.ListN.{length, take, drop}
+use lib.ListN.{take, drop}
 use Rattle.rules.specs.declared.Answer.{Answer}
 use Rattle.rules.specs.declared.Answer.the-variants.{Done, NoneHeld, DoorAbove}
 use Rattle.rules.specs.Answers.{answerOf}
@@ -14,7 +14,7 @@ use Rattle.frames.specs.Digits.{number, numberAfter, valueOf, capital, digits, 
 use Rattle.frames.specs.Frames.{readOf}
 use Rattle.frames.specs.Orders.{orderOf}
 use Rattle.frames.specs.declared.Order.{Order}
-use Rattle.lines.specs.Lines.{lineAfter, endedBy, endedWithin, leftBy, lastLine, linesOf, ordersOf}
+use Rattle.lines.specs.Lines.{lineAfter, endedBy, endedWithin, leftBy, lastLine, ordersOf}
 use Rattle.sessions.specs.Runs.{asked}
 use Rattle.demands.specs.Histories.{Call, Sequence}
 
@@ -50,12 +50,22 @@ told n input out = toldAfter n (ordersOf input) out []
 unfoldable pub seen : Call → Call
 seen c = record { order = c .order; work = c .work; answer = c .answer; word = number (digits 16 (c .word)); steps = c .steps; packed = false }
 
--- what came in and went out tells calls that were made one after the other, and each line was answered by one line
+-- the line that answers: "everything else .. is 10", with a zero word and zero steps; a frame's line has the document's digits and line end, and another number
+abbrev pub AnswersLine : List Order → List ℕ → Type 0
+AnswersLine [] line = line ≡ answerLine 10 0 0
+AnswersLine (o ∷ os) line = (line ≡ answerLine (number (take 2 line)) (number (take 16 (drop 2 line))) (number (take 8 (drop 18 line)))) × (number (take 2 line) < 10)
+
+-- one answer line for each line, in order, and nothing behind them
+abbrev pub AnswersEach : List (Back Order) → List ℕ → Type 0
+AnswersEach [] out = out ≡ []
+AnswersEach (read ∷ reads) out = AnswersLine (read .values) (take 27 out) × AnswersEach reads (drop 27 out)
+
+-- what came in and went out tells calls that were made one after the other
 pub record Tells (n : ℕ) (ws ws′ input out : List ℕ) : Type 0 where
   pub calls : List Call
   pub made : Sequence ws calls ws′
   pub tells : told n input out ≡ map seen calls
-  pub one-each : length out ≡ 27 * length (linesOf input)
+  pub answers : AnswersEach (ordersOf input) out
 
 -- "0001", "zz", "03" and "02", answered 0, 10, 0 with an entry and two steps, and 6
 pub example : told 16 (48 ∷ 48 ∷ 48 ∷ 49 ∷ 10 ∷ 122 ∷ 122 ∷ 10 ∷ 48 ∷ 51 ∷ 10 ∷ 48 ∷ 50 ∷ 10 ∷ []) (answerLine 0 0 0 ++ answerLine 10 0 0 ++ answerLine 0 0x0000000701000001 2 ++ answerLine 6 0 0)
