@@ -1,12 +1,10 @@
 -- Demands 2 and 3 hold of any calls one after the other on one array.
-use Prim.Native.Nat.{ℕ, _+_, _/_, _≤_}
+use Prim.Native.Nat.{ℕ}
 use mathlib.Core.Path.{_≡_, subst}
 use mathlib.Core.Bool.{true}
 use mathlib.Core.List.{List, [], _∷_, _++_}
-use Rattle.rules.specs.Links.{s, most}
 use Rattle.rules.proofs.History.{packings-bound}
-use Rattle.demands.specs.Histories.{Call, Made, History, Sequence, more, hasSetup, fromSetup, since, links, putIn, takenOut, inserts, takes, packings, steps, times}
-use Rattle.demands.specs.Bounds.{stepsBound}
+use Rattle.demands.specs.Histories.{Call, Made, History, Sequence, more, hasSetup, fromSetup, since, links, packings}
 use Rattle.demands.specs.Asked.{Second, Held, Third, AtAnyTime, Two, Three, Reports}
 use Rattle.demands.proofs.HistoryLaws.{stands}
 use Rattle.demands.proofs.BoundLaws.{few-steps, one-to-four}

@@ -12,6 +12,7 @@ use Rattle.rules.specs.Examples.{Order, setupOf, insertOf, takeIt, lookAt, held
 use Rattle.buffers.specs.Format.{linksIn, lentOf}
 use Rattle.queue.specs.Calls.{Called, SlotsKept, WorkKept, Besides}
 use Rattle.queue.proofs.AgreeLaws.{the-answer, Agree, agree}
+use Rattle.queue.proofs.BesidesLaws.{besides-inside}
 use Rattle.demands.specs.Histories.{Call, Made, accepted}
 use Rattle.demands.proofs.CallLaws.{refusal-plain}
 
@@ -51,19 +52,6 @@ module _ (ws area : List ℕ) (answer : Answer) (word steps : ℕ) (packed : Boo
   audit-made promised = record { called = promised; area = area; left = area; lent = refl; besides = (refl, refl) }
 
 -- ---- the work area
-
--- the same words are as long as before, and none of them has changed
-same-inside : (H : ℕ) (area left : List ℕ) → left ≡ area → (length left ≡ length area) × ((p : ℕ) → H ≤ p → getD left p 0 ≡ getD area p 0)
-same-inside H area left e = (ap length e, λ p far. ap (λ (ws : List ℕ). getD ws p 0) e)
-
-pub besides-inside : (order : Order) (ws ws′ area left : List ℕ) (answer : Answer) → Besides order ws ws′ area left answer
-    → (length left ≡ length area) × ((p : ℕ) → most (linksIn ws) ≤ p → getD left p 0 ≡ getD area p 0)
-besides-inside (setupOf links) ws ws′ area left answer besides = same-inside (most (linksIn ws)) area left (besides .1)
-besides-inside (insertOf entry) ws ws′ area left answer besides = (besides .long, besides .past)
-besides-inside takeIt ws ws′ area left answer besides = same-inside (most (linksIn ws)) area left besides
-besides-inside lookAt ws ws′ area left answer besides = same-inside (most (linksIn ws)) area left besides
-besides-inside heldNow ws ws′ area left answer besides = same-inside (most (linksIn ws)) area left (besides .1)
-besides-inside auditIt ws ws′ area left answer besides = same-inside (most (linksIn ws)) area left (besides .1)
 
 pub area-inside : (ws ws′ : List ℕ) (c : Call) (made : Made ws c ws′) → (length (made .left) ≡ length (made .area)) × ((p : ℕ) → most (linksIn ws) ≤ p → getD (made .left) p 0 ≡ getD (made .area) p 0)
 area-inside ws ws′ c made = besides-inside (c .order) ws ws′ (made .area) (made .left) (c .answer) (made .besides)

@@ -1,5 +1,5 @@
 -- Demands 2 and 3 hold of the calls that answer lines tell: sixteen digits of a word are enough after a setup, and they do not speak of packings.
-use Prim.Native.Nat.{ℕ, _+_, _*_, _/_, _^_, _≤_, _<_}
+use Prim.Native.Nat.{ℕ, _+_, _/_, _^_, _≤_, _<_}
 use mathlib.Core.Path.{_≡_, refl, sym, ap, _∙_, subst}
 use mathlib.Core.Logic.{_⊎_}
 use mathlib.Core.Bool.{Bool, true, false}
@@ -9,19 +9,17 @@ use native.Mathlib.Decide.{decLt}
 use native.Mathlib.Nat.{mul-le-mul-left}
 use borrow.Author.Tests.{eq-eqb}
 use lib.Dec.{T, eqb, eqb→eq, lit≤}
-use lib.ListN.{length, drop, length-map}
+use lib.ListN.{length, drop}
 use Rattle.rules.specs.Links.{s, most}
 use Rattle.rules.specs.Entries.{door}
 use Rattle.rules.specs.Book.{isLinkNumber}
 use Rattle.rules.specs.Tests.{_or_}
 use Rattle.rules.specs.Examples.{Order, setupOf, insertOf, takeIt, lookAt, heldNow, auditIt}
 use Rattle.frames.specs.Digits.{number, digits}
-use Rattle.frames.specs.Frames.{readOf}
 use Rattle.frames.proofs.DigitLaws.{number-digits}
 use Rattle.lines.specs.Lines.{linesOf, ordersOf}
 use Rattle.sessions.specs.Runs.{Runs}
 use Rattle.sessions.specs.Pieces.{Session}
-use Rattle.sessions.proofs.RunLaws.{runs-long}
 use Rattle.sessions.proofs.SameAnswers.{session-answers}
 use Rattle.demands.specs.Histories.{Call, accepted, begins, linksOf, Sequence, none, hasSetup, fromSetup, since, links, brought, handed, ifDone, putIn, takenOut, inserts, takes, once, packings, steps, times, StillHeld, Smallest}
 use Rattle.demands.specs.Bounds.{perPacking, stepsBound}

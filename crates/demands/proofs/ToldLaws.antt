@@ -28,11 +28,11 @@ use Rattle.frames.proofs.Laying.{answer-long}
 use Rattle.buffers.specs.Format.{lentOf}
 use Rattle.sessions.specs.Runs as sessions
 use Rattle.sessions.specs.Runs.{asked, orderCall, valuesCall, After, Left, Runs, ends, goes}
+use Rattle.sessions.proofs.RunLaws.{left-long}
 use Rattle.demands.specs.Histories.{Call, Made, Sequence, more}
 use Rattle.demands.specs.Exact.{Answers}
 use Rattle.demands.specs.Told.{toldBy, oneMore, toldAfter, seen, AnswersLine, AnswersEach}
 use Rattle.demands.proofs.AnswerLaws.{made-exactly}
-use Rattle.demands.proofs.MadeLaws.{besides-inside}
 use Rattle.demands.proofs.DigitLaws.{eight-digits}
 
 -- ---- an answer line, read again
@@ -118,11 +118,6 @@ lines-fit [] = tt
 lines-fit (l ∷ ls) = (line-fits l, lines-fit ls)
 
 -- ---- a line more
-
--- the work area keeps its length
-left-long : (values : List Order) (ws next work left : List ℕ) (answer : Answer) → Left values ws next work left answer → length left ≡ length work
-left-long [] ws next work left answer leaves = ap length (leaves .1)
-left-long (o ∷ os) ws next work left answer leaves = besides-inside (asked o) ws next work left answer leaves .0
 
 -- calls on an array that was ws₀ at first and is ws now, of which these are told; the work area has n words
 pub record TellsSoFar (n : ℕ) (ws₀ ws work : List ℕ) (told : List Call) : Type 0 where

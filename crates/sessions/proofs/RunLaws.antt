@@ -1,11 +1,11 @@
 -- Lines answered one after the other, and answers laid in a buffer.
 use mathlib.Core.Path.{_≡_, refl, sym, ap, _∙_, subst}
-use mathlib.Core.Bool.{Bool, true, false, false≢true}
+use mathlib.Core.Bool.{Bool, true, false}
 use mathlib.Core.List.{List, [], _∷_, _++_, append-assoc, append-nil}
 use Prim.Native.Nat.{ℕ, zero, suc, _+_, _-_, _*_, _/_, _%_, _^_, _≤_, _<_}
 use native.Mathlib.Omega.{arith}
 use native.Mathlib.Decide.{decLt}
-use native.Mathlib.Nat.{pow-zero, pow-suc, mul-assoc, mul-one}
+use native.Mathlib.Nat.{pow-suc, mul-assoc}
 use lib.ListN.{length, take, drop, length-append, take-append-drop, drop-of-length-le}
 use lib.Seq.{drop-drop, drop-at, take-add, take-all, take-nil, length-take-le}
 use borrow.Author.Tests.{le-leb}
@@ -22,7 +22,7 @@ use Rattle.frames.specs.declared.ReadFrame.{ReadFrame}
 use Rattle.frames.specs.declared.ReadFrame.the-variants.{Order as Read, NotAFrame as NotRead}
 use Rattle.frames.specs.declared.Order.the-variants.{Setup, Insert, Take, Look, Held, Audit}
 use Rattle.frames.specs.AnswerLine.{answerLine}
-use Rattle.frames.specs.Digits.{digits, digitOf}
+use Rattle.frames.specs.Digits.{digits}
 use Rattle.frames.specs.Lines.{Laid}
 use Rattle.frames.specs.declared.Order.{Order}
 use Rattle.frames.specs.declared.Written.{Written}
@@ -37,6 +37,7 @@ use Rattle.buffers.specs.Format.{linksIn, lentOf}
 use Rattle.queue.specs.Calls.{Called, SlotsKept, WorkKept, Besides}
 use Rattle.queue.proofs.CallLaws.{refused-called}
 use Rattle.queue.proofs.AgreeLaws.{the-answer}
+use Rattle.queue.proofs.BesidesLaws.{besides-inside}
 use Rattle.sessions.specs.Runs.{asked, orderCall, valuesCall, lineCall, answerOf, After, Left, Runs, ends, goes, Filled, Served, ServedAt}
 
 -- ---- one call
@@ -155,6 +156,15 @@ module _ {n : ℕ} where
       let o : rules.Outcome = lineCall n read (lentOf ws) in
       let more : length bytes ≡ 27 * length reads = runs-long run in
       length-append (answerOf o) bytes ∙ omega (arith, answer-long (numberOf (o .answer)) (o .word) (o .steps), more)
+
+-- the work area keeps its length
+pub left-long : (values : List Order) (ws next work left : List ℕ) (answer : Answer) → Left values ws next work left answer → length left ≡ length work
+left-long [] ws next work left answer leaves = ap length (leaves .1)
+left-long (o ∷ os) ws next work left answer leaves = besides-inside (asked o) ws next work left answer leaves .0
+
+pub runs-keep-long : {n : ℕ} {ws ws′ work work′ bytes : List ℕ} {reads : List (Back Order)} → Runs n ws work reads ws′ work′ bytes → length work′ ≡ length work
+runs-keep-long (ends ws work) = refl
+runs-keep-long {n} (goes ws work next left ws′ work′ read reads bytes after leaves run) = runs-keep-long run ∙ left-long (read .values) ws next work left (lineCall n read (lentOf ws) .answer) leaves
 
 -- ---- answers laid
 

@@ -1,51 +1,26 @@
 -- The answers depend on the bytes alone, and not on how they came in pieces.
 use mathlib.Core.Path.{_≡_, refl, sym, ap, _∙_, subst}
-use mathlib.Core.List.{List, [], _∷_, _++_, flatten}
+use mathlib.Core.List.{List, [], _++_, flatten}
 use mathlib.Core.Logic.{inl, inr}
-use Prim.Native.Nat.{ℕ, _+_, _-_, _*_, _≤_, _<_}
+use Prim.Native.Nat.{ℕ, _*_, _<_}
 use native.Mathlib.Omega.{arith}
 use native.Mathlib.Decide.{decLt}
-use lib.ListN.{length, take, drop}
-use lib.Seq.{take-all}
+use lib.ListN.{length, drop}
 use Rattle.frames.specs.Answers.{Back}
 use Rattle.frames.specs.declared.Order.{Order}
 use Rattle.frames.specs.declared.Written.{Written}
 use Rattle.frames.specs.declared.Written.the-variants.{Bytes}
 use Rattle.lines.specs.Lines.{between, ordersOf}
 use Rattle.lines.specs.Cutter.{keptAfter, ordersFrom, ordersOfPieces}
-use Rattle.lines.proofs.Pieces.{any-pieces, orders-append, kept-append}
+use Rattle.lines.proofs.Pieces.{any-pieces}
 use Rattle.buffers.specs.Format.{lentOf}
 use Rattle.sessions.specs.Runs.{Runs, Served, PieceRan, NoMore}
 use Rattle.sessions.specs.Pieces.{Session, finished, then-piece, Alike}
 use Rattle.sessions.proofs.RunLaws.{runs-append, runs-long}
-use Rattle.sessions.proofs.PieceLaws.{between-join}
 use Rattle.sessions.proofs.AlikeLaws.{SameRun, runs-alike}
 
 self : (ws : List ℕ) → Alike (lentOf ws) (lentOf ws)
 self ws = record { lengths = refl; queues = refl; sounds = refl }
-
--- ---- calls of `run_piece` one behind the other
-
-module _ {size : ℕ} {ws next ws′ work left work′ k k₁ k₂ piece : List ℕ} {at i j : ℕ} {out out₁ more more₁ : List ℕ} {n m : ℕ}
-    (one : PieceRan size ws next work left k piece at out out₁ k₁ i n) (two : PieceRan size next ws′ left work′ k₁ piece i more more₁ k₂ j m) where
-  joined : between at j piece ≡ between at i piece ++ between i j piece
-  joined = between-join piece at i j (one .forth) (two .forth)
-
-  -- they answer what one would
-  pub then-runs : Runs size ws work (ordersFrom k (between at j piece)) ws′ work′ (one .bytes ++ two .bytes)
-  then-runs = subst (λ (reads : List (Back Order)). Runs size ws work reads ws′ work′ (one .bytes ++ two .bytes)) all (runs-append (one .run) (two .run))
-    where
-      all : ordersFrom k (between at i piece) ++ ordersFrom k₁ (between i j piece) ≡ ordersFrom k (between at j piece)
-      all =
-          ap (λ (l : List ℕ). ordersFrom k (between at i piece) ++ ordersFrom l (between i j piece)) (one .keeps)
-          ∙ sym (ap (ordersFrom k) joined ∙ orders-append k (between at i piece) (between i j piece))
-
-  pub then-keeps : k₂ ≡ keptAfter k (between at j piece)
-  then-keeps = two .keeps ∙ ap (λ (l : List ℕ). keptAfter l (between i j piece)) (one .keeps) ∙ sym (ap (keptAfter k) joined ∙ kept-append k (between at i piece) (between i j piece))
-
--- a piece that has been read to its end has been read whole
-pub piece-whole : (piece : List ℕ) (at : ℕ) → length piece ≤ at → between 0 at piece ≡ piece
-piece-whole piece at h = take-all (at - 0) piece (omega arith)
 
 -- ---- a session
 
