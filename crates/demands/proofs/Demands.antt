@@ -17,7 +17,8 @@ use Rattle.buffers.specs.Post.{Unused}
 use Rattle.queue.proofs.AgreeLaws.{Agree}
 use Rattle.tally.specs.Day.{nothing, plusEach}
 use Rattle.tally.specs.Sums.{Within}
-use Rattle.sessions.specs.Pieces.{Session}
+use Rattle.sessions.specs.Pieces.{Session, Fed}
+use Rattle.sessions.proofs.FedLaws.{fed-session}
 use Rattle.frames.specs.Orders.{Fits}
 use Rattle.frames.specs.declared.Order.{Order}
 use Rattle.frames.specs.declared.ReadFrame.{ReadFrame}
@@ -223,6 +224,10 @@ module _ {ws ws′ : List ℕ} (cs : List Call) (calls : Sequence ws cs ws′) w
 
   pub calls-report : (later : List Call) (c : Call) (earlier : List Call) → cs ≡ later ++ c ∷ earlier → Reports ws c earlier
   calls-report = sequence-reports cs calls
+
+-- what `run_piece` and `finish` promise, call after call, is a session
+pub sessions-by-contracts : {ws ws′ work work′ out : List ℕ} (pieces : List (List ℕ)) → Fed ws work [] pieces ws′ work′ out → Session (length work) ws work [] pieces ws′ work′ out
+sessions-by-contracts pieces = fed-session
 
 -- ---- of the answer lines of a session: any input in any pieces, over any array and work area, and what came out
 

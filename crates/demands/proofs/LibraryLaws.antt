@@ -45,11 +45,11 @@ work-kept links number work work′ z =
     record { long = z .long; past = z .past; refused = λ no. z .refused (λ e. unlike (sym zero-done ∙ ap (λ n. isDone (answerOf n)) (sym e) ∙ no)) }
 
 pub library-made : {ws ws′ : List ℕ} {c : Call} → Called ws c ws′ → Made ws c ws′
-library-made {ws} (setup ws′ links number word steps z slots) =
-    setup-made ws ws′ [] (answerOf number) word steps false links (answered-called ws ws′ (rules.setup links (lentOf ws)) number word steps false z (sym (setup-unpacked (lentOf ws) links))) slots
-library-made {ws} (insert ws′ work work′ entry number word steps packed z packs left) =
-    insert-made ws ws′ work (answerOf number) word steps packed work′ entry (answered-called ws ws′ (rules.insert (length work) entry (lentOf ws)) number word steps packed z packs)
-    (work-kept (linksIn ws) number work work′ left)
+library-made {ws} (setup ws′ links number word steps z) =
+    setup-made ws ws′ [] (answerOf number) word steps false links (answered-called ws ws′ (rules.setup links (lentOf ws)) number word steps false (z .0) (sym (setup-unpacked (lentOf ws) links))) (z .1)
+library-made {ws} (insert ws′ work work′ entry number word steps packed z) =
+    insert-made ws ws′ work (answerOf number) word steps packed work′ entry (answered-called ws ws′ (rules.insert (length work) entry (lentOf ws)) number word steps packed (z .0) (z .1))
+    (work-kept (linksIn ws) number work work′ (z .2))
 library-made {ws} (take ws′ number word steps z) =
     take-made ws ws′ [] (answerOf number) word steps false (answered-called ws ws′ (rules.take (lentOf ws)) number word steps false z (sym (take-unpacked (lentOf ws))))
 library-made {ws} (look ws′ number word steps z) =

@@ -5,16 +5,14 @@ ghost use lib.ListN.{length};
 ghost use Rattle.rules.specs.Tests.{_and_};
 ghost use Rattle.rules.specs.Answers.{answerOf};
 ghost use Rattle.rules.specs.Book.{sound};
-ghost use Rattle.rules.specs.Calls as rules;
-ghost use Rattle.buffers.specs.Format.{linksIn, bookOf, lentOf};
-ghost use Rattle.queue.specs.Calls.{SlotsKept};
+ghost use Rattle.buffers.specs.Format.{bookOf};
 ghost use lib.Dec.{ltb};
 ghost use Prim.Native.Nat.{_^_};
 ghost use Rattle.tally.specs.Day.{tallyOf};
 ghost use Rattle.frames.specs.Answers.{readBack};
 ghost use Rattle.frames.specs.Frames.{readOf};
 ghost use Rattle.frames.specs.AnswerLine.{answerLine};
-ghost use Rattle.gorgalhut.specs.Answered.{Answered, WorkLeft};
+ghost use Rattle.gorgalhut.specs.Answered.{SetUp, PutIn, TakenOut, LookedAt, Counted, Audited};
 ghost use Rattle.gorgalhut.specs.Numbered.{callOf, named, tallied};
 ghost use Rattle.gorgalhut.specs.Framed.{asked, codeIn, bodyIn, mayIn, lineIn, Lined};
 
@@ -37,8 +35,7 @@ pub extern "C" fn gorgalhut_setup(
     word: &mut u64,
     steps: &mut u64,
 ) -> u8
-    ensures { λ r. ⌜ Answered (now (array .entry)) (now (array .exit)) (rules.setup links (lentOf (now (array .entry)))) r (now (word .exit)) (now (steps .exit)) ⌝ }
-    ensures { λ r. ⌜ SlotsKept (now (array .entry)) (now (array .exit)) ⌝ }
+    ensures { λ r. ⌜ SetUp links (now (array .entry)) (now (array .exit)) r (now (word .exit)) (now (steps .exit)) ⌝ }
 {
     let made = queue::setup(array, links);
     *word = made.word;
@@ -57,9 +54,7 @@ pub extern "C" fn gorgalhut_insert(
     steps: &mut u64,
     packed: &mut bool,
 ) -> u8
-    ensures { λ r. ⌜ Answered (now (array .entry)) (now (array .exit)) (rules.insert (length (now (work .entry))) entry (lentOf (now (array .entry)))) r (now (word .exit)) (now (steps .exit)) ⌝ }
-    ensures { λ r. ⌜ now (packed .exit) ≡ rules.insert (length (now (work .entry))) entry (lentOf (now (array .entry))) .packed ⌝ }
-    ensures { λ r. ⌜ WorkLeft (linksIn (now (array .entry))) r (now (work .entry)) (now (work .exit)) ⌝ }
+    ensures { λ r. ⌜ PutIn entry (now (array .entry)) (now (array .exit)) (now (work .entry)) (now (work .exit)) r (now (word .exit)) (now (steps .exit)) (now (packed .exit)) ⌝ }
 {
     let put = queue::insert(array, work, entry);
     *word = put.word;
@@ -72,7 +67,7 @@ pub extern "C" fn gorgalhut_insert(
 // Takes the smallest entry held; `word` is the entry.
 #[no_mangle]
 pub extern "C" fn gorgalhut_take(array: &mut [u64], word: &mut u64, steps: &mut u64) -> u8
-    ensures { λ r. ⌜ Answered (now (array .entry)) (now (array .exit)) (rules.take (lentOf (now (array .entry)))) r (now (word .exit)) (now (steps .exit)) ⌝ }
+    ensures { λ r. ⌜ TakenOut (now (array .entry)) (now (array .exit)) r (now (word .exit)) (now (steps .exit)) ⌝ }
 {
     let taken = queue::take(array);
     *word = taken.word;
@@ -84,7 +79,7 @@ pub extern "C" fn gorgalhut_take(array: &mut [u64], word: &mut u64, steps: &mut 
 // Looks at the smallest entry held; `word` is the entry.
 #[no_mangle]
 pub extern "C" fn gorgalhut_look(array: &mut [u64], word: &mut u64, steps: &mut u64) -> u8
-    ensures { λ r. ⌜ Answered (now (array .entry)) (now (array .exit)) (rules.look (lentOf (now (array .entry)))) r (now (word .exit)) (now (steps .exit)) ⌝ }
+    ensures { λ r. ⌜ LookedAt (now (array .entry)) (now (array .exit)) r (now (word .exit)) (now (steps .exit)) ⌝ }
 {
     let seen = queue::look(array);
     *word = seen.word;
@@ -96,7 +91,7 @@ pub extern "C" fn gorgalhut_look(array: &mut [u64], word: &mut u64, steps: &mut 
 // Says how many entries are held; `word` is their number.
 #[no_mangle]
 pub extern "C" fn gorgalhut_held(array: &[u64], word: &mut u64, steps: &mut u64) -> u8
-    ensures { λ r. ⌜ Answered (now (array .entry)) (now (array .entry)) (rules.heldCall (lentOf (now (array .entry)))) r (now (word .exit)) (now (steps .exit)) ⌝ }
+    ensures { λ r. ⌜ Counted (now (array .entry)) r (now (word .exit)) (now (steps .exit)) ⌝ }
 {
     let counted = queue::held(array);
     *word = counted.word;
@@ -108,7 +103,7 @@ pub extern "C" fn gorgalhut_held(array: &[u64], word: &mut u64, steps: &mut u64)
 // Says whether every entry stands in order.
 #[no_mangle]
 pub extern "C" fn gorgalhut_audit(array: &[u64], word: &mut u64, steps: &mut u64) -> u8
-    ensures { λ r. ⌜ Answered (now (array .entry)) (now (array .entry)) (rules.audit (lentOf (now (array .entry)))) r (now (word .exit)) (now (steps .exit)) ⌝ }
+    ensures { λ r. ⌜ Audited (now (array .entry)) r (now (word .exit)) (now (steps .exit)) ⌝ }
 {
     let audited = queue::audit(array);
     *word = audited.word;

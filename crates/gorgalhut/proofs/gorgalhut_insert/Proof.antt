@@ -19,7 +19,7 @@ same-length-2 c = search needs
 returns : tie.Need-returns
 returns c =
     let e = c .before .before .before .before .before .insert .ensures in
-    (answered _ _ _ _ _ _ _ _ (e .0) (c .number-of .ensures), (e .0 .packed-is, work-left _ _ _ _ _ (e .1) (c .number-of .ensures)))
+    (answered _ _ _ _ _ _ _ _ (e .0) (c .number-of .ensures), e .0 .packed-is, work-left _ _ _ _ _ (e .1) (c .number-of .ensures))
 
 pub gorgalhut-insert-spec : {M : Type 1} → statement M
 gorgalhut-insert-spec = tie.close (tie.spec insert-requires number-of-requires same-length same-length-2 returns)
