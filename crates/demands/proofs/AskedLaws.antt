@@ -1,10 +1,12 @@
 -- Demands 2 and 3 hold of any calls one after the other on one array.
 use Prim.Native.Nat.{ℕ}
-use mathlib.Core.Path.{_≡_, subst}
+use mathlib.Core.Path.{_≡_, refl, ap, subst}
+use native.Mathlib.Omega.{arith}
+use lib.ListN.{length, drop}
 use mathlib.Core.Bool.{true}
 use mathlib.Core.List.{List, [], _∷_, _++_}
 use Rattle.rules.proofs.History.{packings-bound}
-use Rattle.demands.specs.Histories.{Call, Made, History, Sequence, more, hasSetup, fromSetup, since, links, packings}
+use Rattle.demands.specs.Histories.{Call, Made, History, Sequence, none, more, hasSetup, fromSetup, since, links, packings, meanwhile}
 use Rattle.demands.specs.Asked.{Second, Held, Third, AtAnyTime, Two, Three, Reports}
 use Rattle.demands.proofs.HistoryLaws.{stands}
 use Rattle.demands.proofs.BoundLaws.{few-steps, one-to-four}
@@ -45,15 +47,33 @@ pub record UpTo (ws : List ℕ) (earlier : List Call) : Type 0 where
   pub left : List ℕ
   pub calls : Sequence ws earlier left
 
+cut : {ws ws′ : List ℕ} {cs : List Call} → Sequence ws cs ws′ → (later earlier : List Call) → cs ≡ later ++ earlier → UpTo ws earlier
+cut {ws} none [] earlier e = record { left = ws; calls = subst (λ cs. Sequence ws cs ws) e none }
+cut none (d ∷ later) earlier e = absurd (omega (arith, ap length e))
+cut {ws} (more ws₁ ws₂ c cs calls made) [] earlier e = record { left = ws₂; calls = subst (λ cs. Sequence ws cs ws₂) e (more ws₁ ws₂ c cs calls made) }
+cut (more ws₁ ws₂ c cs calls made) (d ∷ later) earlier e = cut calls later earlier (ap (drop 1) e)
+cut (meanwhile ws₁ vs cs calls same) later earlier e = cut calls later earlier e
+
 pub up-to : {ws ws′ : List ℕ} (later earlier : List Call) → Sequence ws (later ++ earlier) ws′ → UpTo ws earlier
-up-to {ws′ = ws′} [] earlier calls = record { left = ws′; calls = calls }
-up-to (d ∷ later) earlier (more ws₁ ws₂ d′ cs calls made) = up-to later earlier calls
+up-to later earlier calls = cut calls later earlier refl
+
+firstOr : Call → List Call → Call
+firstOr c [] = c
+firstOr c (d ∷ ds) = d
+
+last : {ws ws′ : List ℕ} {cs : List Call} → Sequence ws cs ws′ → (c : Call) (earlier : List Call) → cs ≡ c ∷ earlier → Before ws c earlier
+unfolding firstOr
+last none c earlier e = absurd (omega (arith, ap length e))
+last {ws} (more ws₁ ws₂ d cs calls made) c earlier e = record {
+  ws₁ = ws₁;
+  ws₂ = ws₂;
+  calls = subst (λ cs. Sequence ws cs ws₁) (ap (drop 1) e) calls;
+  made = subst (λ c. Made ws₁ c ws₂) (ap (firstOr c) e) made;
+}
+last (meanwhile ws₁ vs cs calls same) c earlier e = last calls c earlier e
 
 pub cut-at : {ws ws′ : List ℕ} (later : List Call) (c : Call) (earlier : List Call) → Sequence ws (later ++ c ∷ earlier) ws′ → Before ws c earlier
-cut-at later c earlier calls = last (up-to later (c ∷ earlier) calls .calls)
-  where
-    last : {ws ws′ : List ℕ} → Sequence ws (c ∷ earlier) ws′ → Before ws c earlier
-    last (more ws₁ ws₂ c′ cs calls made) = record { ws₁ = ws₁; ws₂ = ws₂; calls = calls; made = made }
+cut-at later c earlier calls = last (up-to later (c ∷ earlier) calls .calls) c earlier refl
 
 -- what holds at the end of every sequence of calls holds at any time
 pub any-time : {ws ws′ : List ℕ} (P : List Call → ℕ → Type 0) (cs : List Call) → Sequence ws cs ws′ → ((left : List ℕ) (ds : List Call) → Sequence ws ds left → hasSetup ds ≡ true → P (since ds) (links ds))

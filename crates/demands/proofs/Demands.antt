@@ -25,11 +25,11 @@ use Rattle.frames.specs.declared.ReadFrame.{ReadFrame}
 use Rattle.frames.specs.declared.ReadFrame.the-variants.{Order as Read}
 use Rattle.frames.specs.declared.Written.{Written}
 use Rattle.frames.specs.declared.Written.the-variants.{Bytes}
-use Rattle.demands.specs.Histories.{Call, Made, accepted, History, Sequence, hasSetup, fromSetup, since, links, putIn, takenOut, inserts, takes, packings, steps, times, StillHeld, Smallest}
+use Rattle.demands.specs.Histories.{Call, Made, accepted, MadeSame, History, Sequence, hasSetup, fromSetup, since, links, putIn, takenOut, inserts, takes, packings, steps, times, StillHeld, Smallest}
 use Rattle.demands.specs.Exact.{Answers}
 use Rattle.demands.specs.Bounds.{stepsBound}
 use Rattle.demands.specs.Tallies.{tallyAfter, sums}
-use Rattle.demands.specs.Unread.{SameUpTo, MadeSame}
+use Rattle.demands.specs.Unread.{SameUpTo}
 use Rattle.demands.specs.Asked.{Two, Three, Reports}
 use Rattle.demands.specs.Told.{told, seen, Tells}
 use Rattle.demands.specs.Library as library
@@ -85,7 +85,7 @@ pub outcomes-agree : (ws ws₁ ws₂ : List ℕ) (c d : Call) → c .order ≡ d
 outcomes-agree = made-agree
 
 -- "Words past the stated length are never touched": nothing that comes back depends on them, nor on a word of the book that means nothing
-pub never-read : (ws vs ws′ vs′ : List ℕ) (c d : Call) → SameUpTo ws vs → c .order ≡ d .order → c .work ≡ d .work → Made ws c ws′ → Made vs d vs′ → MadeSame c d ws′ vs′
+pub never-read : (ws vs ws′ vs′ : List ℕ) (c d : Call) → SameUpTo ws vs → c .order ≡ d .order → c .work ≡ d .work → Made ws c ws′ → Made vs d vs′ → MadeSame ws c d ws′ vs′
 never-read = made-unread
 
 -- ---- demand 2: a call c in a history, after the calls `earlier` and before the calls `later`

@@ -19,10 +19,12 @@ use Rattle.rules.proofs.History.{Since, since-fine}
 use Rattle.rules.proofs.History as history
 use Rattle.rules.proofs.SinceCalls.{isInsert, insertsIn, goes-on}
 use Rattle.rules.proofs.SinceCalls as rules
-use Rattle.buffers.specs.Format.{bookOf, lentOf}
+use Rattle.buffers.specs.Format.{linksIn, bookOf, lentOf}
 use Rattle.queue.specs.Calls.{Called}
 use Rattle.queue.proofs.AgreeLaws.{the-answer}
-use Rattle.demands.specs.Histories.{Call, Made, accepted, isSetup, linksOf, begins, History, first, next, since, links, brought, handed, ifDone, putIn, takenOut, once, packings, steps}
+use Rattle.demands.specs.Unread.{SameUpTo}
+use Rattle.demands.specs.Histories.{Call, Made, accepted, isSetup, linksOf, begins, History, first, next, since, links, brought, handed, ifDone, putIn, takenOut, once, packings, steps, between}
+use Rattle.demands.proofs.UnreadLaws.{same-lent}
 use Rattle.demands.proofs.CallLaws.{once-is, weightOf, moves, refusal-plain, setup-begun, fresh-weight}
 
 -- an array set up with so many links, in which these entries were put and from which these were taken, with so many packings and merge steps
@@ -143,6 +145,23 @@ module _ {l p t : ℕ} {ins outs : List ℕ} (ws ws′ : List ℕ) (c : Call) (h
       go false true es eb n = done-after es eb
       go false false es eb n = refused-after eb
 
+-- ---- the box between two calls
+
+stands-still : {l p t : ℕ} {ins outs : List ℕ} (ws vs : List ℕ) → SameUpTo ws vs → Stands l ins outs p t ws → Stands l ins outs p t vs
+unfolding lentOf bookOf queueOf
+stands-still {l} {p} {t} ws vs same h =
+    let links-are : linksIn ws ≡ l = since-fine l (h .number) (h .goes) .same in
+    let long : words (linksIn ws) ≤ length ws = rw links-are (h .long) in
+    let e : lentOf ws ≡ lentOf vs = same-lent ws vs same long (h .holds) in
+    let q : queueOf (lentOf ws) ≡ queueOf (lentOf vs) = ap queueOf e in
+    record {
+      number = h .number;
+      long = rw (same .long) (h .long);
+      holds = sym (ap (λ (a : Lent). sound (a .book)) e) ∙ h .holds;
+      goes = carried refl refl refl q (h .goes);
+      keeps = λ g. omega (arith, ap (weightOf g) q, h .keeps g);
+    }
+
 -- ---- histories
 
 -- after one more call, which may begin anew
@@ -154,6 +173,7 @@ Now c cs ws b =
 -- at any time in a history
 pub stands : {cs : List Call} {ws : List ℕ} → History cs ws → Stands (links cs) (putIn (since cs)) (takenOut (since cs)) (packings (since cs)) (steps (since cs)) ws
 stands (first ws ws′ c b made) = subst (Now c [] ws′) (sym b) (begun (c .order) (c .work) ws ws′ (c .answer) (c .word) (c .steps) (c .packed) b (made .called))
+stands (between ws vs cs h same) = stands-still ws vs same (stands h)
 stands (next ws ws′ c cs h made) = go (begins c) refl (stands h)
   where
     go : (b : Bool) → begins c ≡ b → Stands (links cs) (putIn (since cs)) (takenOut (since cs)) (packings (since cs)) (steps (since cs)) ws → Now c cs ws′ b

@@ -14,7 +14,7 @@ use Rattle.queue.proofs.CheckLaws.{unlike}
 use Rattle.gorgalhut.specs.Answered.{Answered, WorkLeft}
 use Rattle.demands.specs.Histories.{Call, Made, Sequence}
 use Rattle.demands.specs.Histories as histories
-use Rattle.demands.specs.Library.{Called, setup, insert, take, look, held, audit, Calls, none, more}
+use Rattle.demands.specs.Library.{Called, setup, insert, take, look, held, audit, Calls, none, more, meanwhile}
 use Rattle.demands.proofs.MadeLaws.{setup-made, insert-made, take-made, look-made, held-made, audit-made}
 use Rattle.demands.proofs.CallLaws.{setup-unpacked, take-unpacked, look-unpacked, held-unpacked, audit-unpacked}
 
@@ -63,3 +63,4 @@ library-made {ws} (audit number word steps z) =
 pub library-calls : {ws ws′ : List ℕ} {cs : List Call} → Calls ws cs ws′ → Sequence ws cs ws′
 library-calls none = histories.none
 library-calls (more ws₁ ws₂ c cs before called) = histories.more ws₁ ws₂ c cs (library-calls before) (library-made called)
+library-calls (meanwhile ws₁ vs cs before same) = histories.meanwhile ws₁ vs cs (library-calls before) same

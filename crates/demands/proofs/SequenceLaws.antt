@@ -4,11 +4,12 @@ use mathlib.Core.Path.{_≡_, refl, sym, ap, _∙_}
 use mathlib.Core.Bool.{Bool, true, false}
 use mathlib.Core.List.{List, [], _∷_}
 use Rattle.rules.specs.Tests.{_or_}
-use Rattle.demands.specs.Histories.{Call, begins, linksOf, History, first, next, since, links, Sequence, none, more, hasSetup, fromSetup}
+use Rattle.demands.specs.Histories.{Call, begins, linksOf, History, first, next, since, links, Sequence, none, more, hasSetup, fromSetup, between, meanwhile}
 use Rattle.queue.proofs.CheckLaws.{unlike}
 
 pub from-setup : {ws ws′ : List ℕ} {cs : List Call} → Sequence ws cs ws′ → hasSetup cs ≡ true → History (fromSetup cs) ws′
 from-setup none e = absurd (unlike (sym e))
+from-setup (meanwhile ws₁ vs cs before same) e = between ws₁ vs (fromSetup cs) (from-setup before e) same
 from-setup (more ws₁ ws₂ c cs before made) e = go (begins c) refl e (from-setup before)
   where
     go : (b : Bool) → begins c ≡ b → (b or hasSetup cs) ≡ true → (hasSetup cs ≡ true → History (fromSetup cs) ws₁)

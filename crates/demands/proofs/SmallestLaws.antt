@@ -19,7 +19,7 @@ use Rattle.rules.proofs.EntryOrder.{Earlier, earlier-smaller}
 use Rattle.rules.proofs.History.{Fine, since-fine, since-ordered}
 use Rattle.buffers.specs.Format.{lentOf}
 use Rattle.queue.proofs.AgreeLaws.{the-answer}
-use Rattle.demands.specs.Histories.{Call, Made, accepted, isSetup, begins, History, first, next, since, links, brought, handed, ifDone, putIn, takenOut, times, StillHeld, Smallest}
+use Rattle.demands.specs.Histories.{Call, Made, accepted, isSetup, begins, History, first, next, since, links, brought, handed, ifDone, putIn, takenOut, times, StillHeld, Smallest, between}
 use Rattle.queue.proofs.CheckLaws.{unlike}
 use Rattle.demands.proofs.CallLaws.{once-is, held-is, timesHeld, LeastHeld, least-taken, least-seen}
 use Rattle.demands.proofs.HistoryLaws.{stands}
@@ -53,6 +53,7 @@ find (first ws ws′ d b made) (x ∷ later) c earlier e n = absurd (not-empty l
 find (next ws ws′ d cs h made) [] c earlier e n =
     record { ws = ws; ws′ = ws′; history = subst (λ cs. History cs ws) (ap tailOf e) h; made = subst (λ c. Made ws c ws′) (ap (headOr d) e) made }
 find (next ws ws′ d cs h made) (x ∷ later) c earlier e n = find h later c earlier (ap tailOf e) n
+find (between ws vs cs h same) later c earlier e n = find h later c earlier e n
 
 pub before : {ws : List ℕ} (later : List Call) (c : Call) (earlier : List Call) → History (later ++ c ∷ earlier) ws → begins c ≡ false → Before c earlier
 before later c earlier h n = find h later c earlier refl n

@@ -15,7 +15,7 @@ use Rattle.tally.specs.Day as tally
 use Rattle.tally.specs.Sums.{Within}
 use Rattle.tally.specs.Told.{callOf}
 use Rattle.queue.proofs.AgreeLaws.{the-answer}
-use Rattle.demands.specs.Histories.{Call, Made, accepted, begins, History, first, next, since, brought, handed, ifDone, putIn, takenOut, inserts, takes, once, packings, steps}
+use Rattle.demands.specs.Histories.{Call, Made, accepted, begins, History, first, next, since, brought, handed, ifDone, putIn, takenOut, inserts, takes, once, packings, steps, between}
 use Rattle.demands.specs.Tallies.{toldOf, tallyAfter, sums}
 use Rattle.demands.proofs.CallLaws.{refusal-plain, setup-steps, setup-unpacked, take-unpacked, look-unpacked, held-unpacked, audit-unpacked}
 
@@ -70,6 +70,7 @@ EachMade (c ∷ cs) = MadeOne c × EachMade cs
 pub history-made : {cs : List Call} {ws : List ℕ} → History cs ws → EachMade cs
 history-made (first ws ws′ c b made) = (record { ws = ws; ws′ = ws′; made = made }, tt)
 history-made (next ws ws′ c cs h made) = (record { ws = ws; ws′ = ws′; made = made }, history-made h)
+history-made (between ws vs cs h same) = history-made h
 
 pub since-made : (cs : List Call) → EachMade cs → EachMade (since cs)
 since-made [] e = tt

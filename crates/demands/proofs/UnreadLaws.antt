@@ -21,19 +21,21 @@ use Rattle.rules.specs.Book.{isLinkNumber, sound}
 use Rattle.rules.specs.Calls.{Lent, Outcome, Check, _else_, firstFailing, refused, unless, arrayChecks, insertChecks, takeChecks, theEntry, withBuffers, queueOf}
 use Rattle.rules.specs.Calls as rules
 use Rattle.rules.specs.Examples.{Order, setupOf, insertOf, takeIt, lookAt, heldNow, auditIt, call}
+use Rattle.rules.specs.Tests.{every}
 use Rattle.rules.proofs.Tests.{truth}
+use Rattle.rules.proofs.Table.{each-link}
 use Rattle.rules.proofs.Accepted.{Long}
 use Rattle.buffers.specs.Format.{linksIn, counterIn, wordOf, countIn, startIn, markIn, countOf, many, headOf, bookOf, bufferOf, buffersOf, lentOf}
 use Rattle.buffers.specs.Post.{Inside, Unused}
 use Rattle.buffers.proofs.SlotLaws.{few, behind-book, in-words}
 use Rattle.buffers.proofs.ArrayLaws.{unused-behind, unused-within, has, buffer-length, entry-at, buffer-is}
-use Rattle.buffers.proofs.RuleLaws.{link-number}
+use Rattle.buffers.proofs.RuleLaws.{link-number, is-link-number}
 use Rattle.buffers.proofs.Exact.{sound-inside}
 use Rattle.queue.proofs.CheckLaws.{unlike}
 use Rattle.queue.proofs.CallLaws.{each-same}
 use Rattle.queue.proofs.AgreeLaws.{the-answer}
-use Rattle.demands.specs.Histories.{Call, Made, accepted}
-use Rattle.demands.specs.Unread.{SameUpTo, MadeSame}
+use Rattle.demands.specs.Unread.{SameUpTo}
+use Rattle.demands.specs.Histories.{Call, Made, accepted, MadeSame}
 
 -- ---- what arrays with the same words up to the stated length say
 
@@ -256,20 +258,41 @@ call-unread ws vs same work order = call-same (lentOf ws) (lentOf vs) (unread-al
 answers-are : (ws ws′ : List ℕ) (c : Call) → Made ws c ws′ → c .answer ≡ call (c .work) (c .order) (lentOf ws) .answer
 answers-are ws ws′ c made = the-answer (made .called)
 
-pub made-unread : (ws vs ws′ vs′ : List ℕ) (c d : Call) → SameUpTo ws vs → c .order ≡ d .order → c .work ≡ d .work → Made ws c ws′ → Made vs d vs′ → MadeSame c d ws′ vs′
-unfolding queueOf lentOf
+-- an array that is long enough for its links is long enough for one
+one-link-least : {l : ℕ} → LinkNumber l → words 1 ≤ words l
+unfolding every words
+one-link-least {l} h = leb→le (words 1) (words l) (each-link (λ l. leb (words 1) (words l)) tt h)
+
+long-of : (ws : List ℕ) → words (linksIn ws) ≤ length ws → sound (bookOf ws) ≡ true → Long (lentOf ws)
+unfolding lentOf bookOf
+long-of ws enough holds =
+    let link : LinkNumber (linksIn ws) = sound-inside ws holds enough .link in
+    record { shortest = omega (arith, enough, one-link-least link); number = subst T (sym (is-link-number (linksIn ws) link)) tt; enough = enough }
+
+pub same-lent : (ws vs : List ℕ) → SameUpTo ws vs → words (linksIn ws) ≤ length ws → sound (bookOf ws) ≡ true → lentOf ws ≡ lentOf vs
+unfolding lentOf
+same-lent ws vs same enough holds = unread-alike ws vs same .whole (long-of ws enough holds) holds
+
+pub made-unread : (ws vs ws′ vs′ : List ℕ) (c d : Call) → SameUpTo ws vs → c .order ≡ d .order → c .work ≡ d .work → Made ws c ws′ → Made vs d vs′ → MadeSame ws c d ws′ vs′
 made-unread ws vs ws′ vs′ c d same order work one two =
     let o = call (c .work) (c .order) (lentOf ws) in
     let p = call (d .work) (d .order) (lentOf vs) in
     let s : Same o p = subst (λ (z : Outcome). Same o z) (λ i. call (work i) (order i) (lentOf vs)) (call-unread ws vs same (c .work) (c .order)) in
     let answers = answers-are ws ws′ c one ∙ s .answers ∙ sym (answers-are vs vs′ d two) in
-    let queues : accepted c ≡ true → queueOf (lentOf ws′) ≡ queueOf (lentOf vs′) = λ e.
+    let done : accepted c ≡ true → queueOf (lentOf ws′) ≡ queueOf (lentOf vs′) = λ e.
     one .called .queue-is e ∙ s .queues (ap isDone (sym (answers-are ws ws′ c one)) ∙ e) ∙ sym (two .called .queue-is (ap isDone (sym answers) ∙ e)) in
     record {
       answers = answers;
-      words = one .called .word-is ∙ s .words ∙ sym (two .called .word-is);
-      steps = one .called .steps-are ∙ s .steps ∙ sym (two .called .steps-are);
-      packings = one .called .packed-is ∙ s .packings ∙ sym (two .called .packed-is);
-      queues = queues;
-      buffers = λ e. ap (λ (q : Queue). q .buffers) (queues e);
+      words-are = one .called .word-is ∙ s .words ∙ sym (two .called .word-is);
+      steps-are = one .called .steps-are ∙ s .steps ∙ sym (two .called .steps-are);
+      packings-are = one .called .packed-is ∙ s .packings ∙ sym (two .called .packed-is);
+      accepted-alike = done;
+      sound-alike = λ enough holds. either enough holds (accepted c) refl answers done;
     }
+  where
+    either : words (linksIn ws) ≤ length ws → sound (bookOf ws) ≡ true → (b : Bool) → accepted c ≡ b → c .answer ≡ d .answer → (accepted c ≡ true → queueOf (lentOf ws′) ≡ queueOf (lentOf vs′))
+        → queueOf (lentOf ws′) ≡ queueOf (lentOf vs′)
+    either enough holds true e answers done = done e
+    either enough holds false e answers done =
+        ap (λ (ws : List ℕ). queueOf (lentOf ws)) (one .called .refused e) ∙ ap queueOf (same-lent ws vs same enough holds)
+        ∙ sym (ap (λ (ws : List ℕ). queueOf (lentOf ws)) (two .called .refused (ap isDone (sym answers) ∙ e)))

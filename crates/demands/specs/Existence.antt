@@ -6,11 +6,12 @@ use mathlib.Core.List.{List, [], _∷_}
 use lib.Dec.{eqb}
 use Rattle.rules.specs.Tests.{_and_}
 use Rattle.buffers.specs.Format.{countOf}
-use Rattle.demands.specs.Histories.{Call, accepted, History, first, next, inserts, once, packings}
+use Rattle.demands.specs.Histories.{Call, accepted, History, first, next, between, inserts, once, packings}
 
 -- "If I now has 8, .. sweep": an accepted insert, 7 in I before and none afterwards, that did not pack
 abbrev pub sweeps : {cs : List Call} {ws : List ℕ} → History cs ws → ℕ
 sweeps (first ws ws′ c b made) = 0
+sweeps (between ws vs cs before same) = sweeps before
 sweeps (next ws ws′ c cs before made) = once (eqb (inserts (c ∷ [])) 1 and not (c .packed) and eqb (countOf ws 0) 7 and eqb (countOf ws′ 0) 0) + sweeps before
 
 abbrev pub refusals : List Call → ℕ

@@ -10,8 +10,12 @@ use Rattle.rules.specs.Answers.{isDone}
 use Rattle.rules.specs.Entries.{wholeWord}
 use Rattle.rules.specs.Tests.{_and_, _or_}
 use Rattle.rules.specs.Examples.{Order, setupOf, insertOf, takeIt, lookAt, heldNow, auditIt, call}
-use Rattle.buffers.specs.Format.{lentOf}
+use Rattle.rules.specs.Links.{words}
+use Rattle.rules.specs.Book.{sound}
+use Rattle.rules.specs.Calls.{queueOf}
+use Rattle.buffers.specs.Format.{linksIn, bookOf, lentOf}
 use Rattle.queue.specs.Calls.{Called, Besides}
+use Rattle.demands.specs.Unread.{SameUpTo}
 
 -- ---- calls
 
@@ -56,13 +60,23 @@ linksOf auditIt = 0
 abbrev pub begins : Call → Bool
 begins c = isSetup (c .order) and accepted c
 
+-- the same came back from two calls, and where they were accepted, or the book was sound before, the same link number, counters and entries of every buffer stand afterwards
+pub record MadeSame (ws : List ℕ) (c d : Call) (ws′ vs′ : List ℕ) : Type 0 where
+  pub answers : c .answer ≡ d .answer
+  pub words-are : c .word ≡ d .word
+  pub steps-are : c .steps ≡ d .steps
+  pub packings-are : c .packed ≡ d .packed
+  pub accepted-alike : accepted c ≡ true → queueOf (lentOf ws′) ≡ queueOf (lentOf vs′)
+  pub sound-alike : words (linksIn ws) ≤ length ws → sound (bookOf ws) ≡ true → queueOf (lentOf ws′) ≡ queueOf (lentOf vs′)
+
 -- ---- histories
 
 -- "a history is any sequence of calls on one array, each related to the next by the contracts of the calls, starting with an accepted setup": its calls, the latest
--- first, and the words that they left; the words before the setup may be any
+-- first, and the words that they left; the words before the setup may be any; between two calls the box may write words that no call reads
 pub data History : List Call → List ℕ → Type 0 where
   first : (ws ws′ : List ℕ) (c : Call) → begins c ≡ true → Made ws c ws′ → History (c ∷ []) ws′
   next : (ws ws′ : List ℕ) (c : Call) (cs : List Call) → History cs ws → Made ws c ws′ → History (c ∷ cs) ws′
+  between : (ws vs : List ℕ) (cs : List Call) → History cs ws → SameUpTo ws vs → History cs vs
 
 -- the calls since the last accepted setup, and its number of links
 abbrev pub since : List Call → List Call
@@ -77,6 +91,7 @@ links (c ∷ cs) = elim (begins c) [ true ↦ linksOf (c .order) | false ↦ lin
 pub data Sequence (ws : List ℕ) : List Call → List ℕ → Type 0 where
   none : Sequence ws [] ws
   more : (ws₁ ws₂ : List ℕ) (c : Call) (cs : List Call) → Sequence ws cs ws₁ → Made ws₁ c ws₂ → Sequence ws (c ∷ cs) ws₂
+  meanwhile : (ws₁ vs : List ℕ) (cs : List Call) → Sequence ws cs ws₁ → SameUpTo ws₁ vs → Sequence ws cs vs
 
 abbrev pub hasSetup : List Call → Bool
 hasSetup [] = false

@@ -6,6 +6,7 @@ use lib.ListN.{length}
 use Rattle.rules.specs.Answers.{answerOf}
 use Rattle.rules.specs.Examples.{Order, setupOf, insertOf, takeIt, lookAt, heldNow, auditIt}
 use Rattle.gorgalhut.specs.Answered.{SetUp, PutIn, TakenOut, LookedAt, Counted, Audited}
+use Rattle.demands.specs.Unread.{SameUpTo}
 use Rattle.demands.specs.Histories.{Call}
 
 -- an order, so many words of work area, and what came back, the answer by its number
@@ -22,7 +23,8 @@ pub data Called (ws : List ℕ) : Call → List ℕ → Type 0 where
   held : (number word steps : ℕ) → Counted ws number word steps → Called ws (gotBack heldNow 0 number word steps false) ws
   audit : (number word steps : ℕ) → Audited ws number word steps → Called ws (gotBack auditIt 0 number word steps false) ws
 
--- calls by the library one after the other on one array, the latest first, from the words ws on
+-- calls by the library one after the other on one array, the latest first, from the words ws on; meanwhile the box may write words that no call reads
 pub data Calls (ws : List ℕ) : List Call → List ℕ → Type 0 where
   none : Calls ws [] ws
   more : (ws₁ ws₂ : List ℕ) (c : Call) (cs : List Call) → Calls ws cs ws₁ → Called ws₁ c ws₂ → Calls ws (c ∷ cs) ws₂
+  meanwhile : (ws₁ vs : List ℕ) (cs : List Call) → Calls ws cs ws₁ → SameUpTo ws₁ vs → Calls ws cs vs
