@@ -10,7 +10,7 @@ use Rattle.demands.specs.Histories.{Call, Made, History, Sequence, none,
 use Rattle.demands.specs.Asked.{Second, Held, Third, AtAnyTime, Two, Three, Reports}
 use Rattle.demands.proofs.HistoryLaws.{stands}
 use Rattle.demands.proofs.BoundLaws.{few-steps, one-to-four}
-use Rattle.demands.proofs.SmallestLaws.{no-more, smallest-taken, smallest-seen}
+use Rattle.demands.proofs.SmallestLaws.{headOr, no-more, smallest-taken, smallest-seen}
 use Rattle.demands.proofs.AnswerLaws.{all-out, at-most, take-accepted, look-accepted, refused-empty, refused-look, held-counts, audit-done-now, insert-accepted, refused-insert}
 use Rattle.demands.proofs.SequenceLaws.{from-setup, since-same, links-same}
 
@@ -57,18 +57,14 @@ cut (meanwhile ws₁ vs cs calls same) later earlier e = cut calls later earlier
 pub up-to : {ws ws′ : List ℕ} (later earlier : List Call) → Sequence ws (later ++ earlier) ws′ → UpTo ws earlier
 up-to later earlier calls = cut calls later earlier refl
 
-firstOr : Call → List Call → Call
-firstOr c [] = c
-firstOr c (d ∷ ds) = d
-
 last : {ws ws′ : List ℕ} {cs : List Call} → Sequence ws cs ws′ → (c : Call) (earlier : List Call) → cs ≡ c ∷ earlier → Before ws c earlier
-unfolding firstOr
+unfolding headOr
 last none c earlier e = absurd (omega (arith, ap length e))
 last {ws} (more ws₁ ws₂ d cs calls made) c earlier e = record {
   ws₁ = ws₁;
   ws₂ = ws₂;
   calls = subst (λ cs. Sequence ws cs ws₁) (ap (drop 1) e) calls;
-  made = subst (λ c. Made ws₁ c ws₂) (ap (firstOr c) e) made;
+  made = subst (λ c. Made ws₁ c ws₂) (ap (headOr c) e) made;
 }
 last (meanwhile ws₁ vs cs calls same) c earlier e = last calls c earlier e
 

@@ -27,6 +27,7 @@ use Rattle.demands.specs.Asked.{Second, Held, Third, AtAnyTime, Two, Thr
 use Rattle.demands.specs.Told.{seen, told, Tells}
 use Rattle.demands.proofs.HistoryLaws.{stands}
 use Rattle.demands.proofs.BoundLaws.{of-four}
+use Rattle.demands.proofs.SmallestLaws.{headOr}
 use Rattle.demands.proofs.AnswerLaws.{at-most}
 use Rattle.demands.proofs.SequenceLaws.{from-setup}
 use Rattle.demands.proofs.AskedLaws.{from-last, Before, UpTo, up-to, cut-at, sequence-held, sequence-two, sequence-third}
@@ -214,17 +215,13 @@ record Split (cs : List Call) (c : Call) (earlier : List Call) : Type 0 where
   same : seen c′ ≡ c
   before : map seen earlier′ ≡ earlier
 
-firstOr : Call → List Call → Call
-firstOr c [] = c
-firstOr c (d ∷ ds) = d
-
 split : (cs later : List Call) (c : Call) (earlier : List Call) → map seen cs ≡ later ++ c ∷ earlier → Split cs c earlier
-unfolding firstOr
+unfolding headOr
 split cs later c earlier e = let z = parted cs later (c ∷ earlier) e in first (z .later′) (z .earlier′) (z .whole) (z .before)
   where
     first : (later′ rest : List Call) → cs ≡ later′ ++ rest → map seen rest ≡ c ∷ earlier → Split cs c earlier
     first later′ [] whole before = absurd (omega (arith, ap length before))
-    first later′ (b ∷ rest) whole before = record { later′ = later′; c′ = b; earlier′ = rest; whole = whole; same = ap (firstOr c) before; before = ap (drop 1) before }
+    first later′ (b ∷ rest) whole before = record { later′ = later′; c′ = b; earlier′ = rest; whole = whole; same = ap (headOr c) before; before = ap (drop 1) before }
 
 small-before : (later earlier : List Call) → EachSmall (later ++ earlier) → EachSmall earlier
 small-before [] earlier h = h

@@ -33,7 +33,7 @@ pub record Before (c : Call) (earlier : List Call) : Type 0 where
   pub history : History earlier ws
   pub made : Made ws c ws′
 
-headOr : Call → List Call → Call
+unfoldable pub headOr : Call → List Call → Call
 headOr d [] = d
 headOr d (c ∷ cs) = c
 

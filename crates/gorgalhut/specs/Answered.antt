@@ -25,7 +25,7 @@ pub record Answered (ws ws′ : List ℕ) (o : rules.Outcome) (number word steps
   pub queue-is : isDone (o .answer) ≡ true → rules.queueOf (lentOf ws′) ≡ o .queue
   pub sound-is : isDone (o .answer) ≡ true → sound (bookOf ws′) ≡ true
 
--- an insert's work area: "Words of the work area past H are never touched", and a refusal changes none
+-- an insert's work area: its words past H are never touched, and a refusal changes none
 pub record WorkLeft (links number : ℕ) (work work′ : List ℕ) : Type 0 where
   pub long : length work′ ≡ length work
   pub past : (p : ℕ) → most links ≤ p → getD work′ p 0 ≡ getD work p 0

@@ -30,7 +30,7 @@ pub record Called (ws ws′ : List ℕ) (o : rules.Outcome) (answer : Answer) (w
 abbrev pub SlotsKept : List ℕ → List ℕ → Type 0
 SlotsKept ws ws′ = (p : ℕ) → bookWords ≤ p → getD ws′ p 0 ≡ getD ws p 0
 
--- "Words of the work area past H are never touched", and a refusal changes none
+-- words of the work area past H are never touched, and a refusal changes none
 pub record WorkKept (links : ℕ) (answer : Answer) (work work′ : List ℕ) : Type 0 where
   pub long : length work′ ≡ length work
   pub past : (p : ℕ) → most links ≤ p → getD work′ p 0 ≡ getD work p 0

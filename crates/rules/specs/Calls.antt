@@ -45,7 +45,7 @@ unfoldable pub firstFailing : List Check → Answer
 firstFailing [] = Done
 firstFailing ((holds else refusal) ∷ checks) = elim holds [ true ↦ firstFailing checks | false ↦ refusal ]
 
--- "Every refusal changes nothing", and gives "a zero word and zero steps"
+-- "Every refusal changes nothing", and gives a zero word and zero steps
 unfoldable pub refused : Answer → Queue → Outcome
 refused answer q = record { answer = answer; word = 0; steps = 0; packed = false; queue = q }
 
