@@ -8,7 +8,7 @@ use native.Mathlib.Omega.{arith}
 use native.Mathlib.Decide.{decLt}
 use lib.Dec.{T, eqb, lit≤}
 use Rattle.rules.specs.declared.Answer.{Answer}
-use Rattle.rules.specs.declared.Answer.the-variants.{Done, Full, NoneHeld, NoPlace}
+use Rattle.rules.specs.declared.Answer.the-variants.{Done, WorkShort, Full, NoneHeld, DoorAbove, NoPlace}
 use Rattle.rules.specs.Answers.{isDone}
 use Rattle.rules.specs.Entries.{door}
 use Rattle.rules.specs.Links.{most, words}
@@ -32,7 +32,7 @@ use Rattle.buffers.proofs.Exact.{sound-inside}
 use Rattle.queue.proofs.BookLaws.{describes, shaped}
 use Rattle.queue.proofs.AgreeLaws.{the-answer}
 use Rattle.demands.specs.Histories.{Call, Made, accepted, History, since, links, putIn, takenOut, inserts, takes, times, StillHeld}
-use Rattle.demands.specs.Exact.{Enough, WorkEnough, Sound, Answers, no-place, full, insert-done, take-done, look-done, held-done, audit-done, none-to-take, none-to-see}
+use Rattle.demands.specs.Exact.{Enough, WorkEnough, Sound, Answers, no-place, work-short, door-above, full, insert-done, take-done, look-done, held-done, audit-done, none-to-take, none-to-see}
 use Rattle.rules.proofs.Tests.{truth}
 use Rattle.queue.proofs.CheckLaws.{unlike}
 use Rattle.demands.proofs.CallLaws.{timesHeld, held-word}
@@ -192,6 +192,19 @@ module _ {cs : List Call} {ws : List ℕ} (h : History cs ws) where
         let so = book-sound (c .work) (insertOf entry) room′ in
         let fewer : held q < most (linksIn ws) = omega (arith, ap most same-links, number-held h) in
         told (insertOf entry) Done is (insert-done entry so low fewer (fits ws (c .work) (insertOf entry) so entry fewer))
+
+    -- without its work area it is refused with 3, else for its door with 7
+    pub insert-short : (entry : ℕ) → c .order ≡ insertOf entry → c .work < most (links cs) → c .answer ≡ WorkShort
+    unfolding lentOf bookOf
+    insert-short entry is short =
+        let short′ : c .work < most (linksIn ws) = rw same-links short in
+        told (insertOf entry) WorkShort is (work-short entry enough short′)
+
+    pub insert-door : (entry : ℕ) → c .order ≡ insertOf entry → most (links cs) ≤ c .work → 2 < door entry → c .answer ≡ DoorAbove
+    unfolding lentOf bookOf
+    insert-door entry is room above =
+        let room′ : most (linksIn ws) ≤ c .work = rw same-links room in
+        told (insertOf entry) DoorAbove is (door-above entry (book-sound (c .work) (insertOf entry) room′) above)
 
     -- and refused with 5 where H are held
     pub insert-full : (entry : ℕ) → c .order ≡ insertOf entry → most (links cs) ≤ c .work → door entry ≤ 2 → inserts (since cs) ≡ takes (since cs) + most (links cs) → c .answer ≡ Full

@@ -11,7 +11,7 @@ use Rattle.demands.specs.Asked.{Second, Held, Third, AtAnyTime, Two, Thr
 use Rattle.demands.proofs.HistoryLaws.{stands}
 use Rattle.demands.proofs.BoundLaws.{few-steps, one-to-four}
 use Rattle.demands.proofs.SmallestLaws.{headOr, no-more, smallest-taken, smallest-seen}
-use Rattle.demands.proofs.AnswerLaws.{all-out, at-most, take-accepted, look-accepted, refused-empty, refused-look, held-counts, audit-done-now, insert-accepted, refused-insert}
+use Rattle.demands.proofs.AnswerLaws.{all-out, at-most, take-accepted, look-accepted, refused-empty, refused-look, held-counts, audit-done-now, insert-accepted, insert-short, insert-door, insert-full}
 use Rattle.demands.proofs.SequenceLaws.{from-setup, since-same, links-same}
 
 -- ---- demand 2
@@ -26,7 +26,9 @@ second-next h c ws′ made = record {
   take-refused = refused-empty h ws′ c made;
   look-refused = refused-look h ws′ c made;
   insert-accepted = insert-accepted h ws′ c made;
-  insert-refused = refused-insert h ws′ c made;
+  insert-short = insert-short h ws′ c made;
+  insert-door = insert-door h ws′ c made;
+  insert-full = insert-full h ws′ c made;
   held-count = held-counts h ws′ c made;
   audit-done = audit-done-now h ws′ c made;
 }
@@ -114,4 +116,4 @@ sequence-three cs calls = any-time (λ now l. Third now l (packings now)) cs cal
 pub sequence-reports : {ws ws′ : List ℕ} (cs : List Call) → Sequence ws cs ws′ → (later : List Call) (c : Call) (earlier : List Call) → cs ≡ later ++ c ∷ earlier → Reports ws c earlier
 sequence-reports {ws} {ws′} cs calls later c earlier e =
     let b = cut-at later c earlier (subst (λ cs. Sequence ws cs ws′) e calls) in
-    record { before = b .ws₁; calls = b .calls; steps-are = b .made .called .steps-are }
+    record { found = b .ws₁; calls = b .calls; steps-are = b .made .called .steps-are }

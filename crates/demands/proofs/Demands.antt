@@ -31,9 +31,9 @@ use Rattle.demands.specs.Bounds.{stepsBound}
 use Rattle.demands.specs.Tallies.{tallyAfter, sums}
 use Rattle.demands.specs.Unread.{SameUpTo}
 use Rattle.demands.specs.Asked.{Two, Three, Reports}
-use Rattle.demands.specs.Told.{told, seen, Tells}
+use Rattle.demands.specs.Told.{told, Tells, Packed, Reported}
 use Rattle.demands.specs.Library as library
-use Rattle.demands.specs.LibraryFrames.{LibraryReads, LibraryWrites}
+use Rattle.gorgalhut.specs.Framed.{FrameRead, FrameWritten}
 use Rattle.demands.specs.Existence.{Exists}
 use Rattle.demands.proofs.HistoryLaws.{stands}
 use Rattle.demands.proofs.BoundLaws.{few-steps, four-rows, one-to-four}
@@ -50,7 +50,7 @@ use Rattle.demands.proofs.Existence.{computed}
 use Rattle.demands.proofs.AskedLaws.{sequence-two, sequence-three, sequence-reports}
 use Rattle.demands.proofs.LibraryLaws.{library-made, library-calls}
 use Rattle.demands.proofs.LibraryFrameLaws.{library-read-back, library-write-back}
-use Rattle.demands.proofs.SeenLaws.{session-tells, session-two, session-three}
+use Rattle.demands.proofs.SeenLaws.{session-tells, session-two, session-packed, session-three, session-reports}
 
 -- ---- demand 1: a call c on any words ws, which left the words ws′
 
@@ -239,19 +239,16 @@ module _ {ws ws′ work work′ out : List ℕ} (pieces : List (List ℕ)) (sess
   pub lines-two : Two (told (length work) (flatten pieces) out)
   lines-two = session-two pieces session
 
-  -- P is the packings of the calls that the lines tell
-  pub lines-three : Three (lines-are-calls .calls) (λ now l. packings now)
-  lines-three = sequence-three (lines-are-calls .calls) (lines-are-calls .made)
+  -- P is the packings of the calls behind the lines
+  pub lines-three : (later earlier : List Call) → told (length work) (flatten pieces) out ≡ later ++ earlier → hasSetup earlier ≡ true → Packed ws earlier
+  lines-three = session-packed pieces session
 
   -- by the lines alone, which do not tell of packings: with the most that there can be, n divided by s(L), rounded down
   pub lines-three-alone : Three (told (length work) (flatten pieces) out) (λ now l. inserts now / s l)
   lines-three-alone = session-three pieces session
 
-  pub lines-report : (later : List Call) (c : Call) (earlier : List Call) → lines-are-calls .calls ≡ later ++ c ∷ earlier → Reports ws (seen c) earlier
-  unfolding seen
-  lines-report later c earlier e =
-      let z = sequence-reports (lines-are-calls .calls) (lines-are-calls .made) later c earlier e in
-      record { before = z .before; calls = z .calls; steps-are = z .steps-are }
+  pub lines-report : (later : List Call) (c : Call) (earlier : List Call) → told (length work) (flatten pieces) out ≡ later ++ c ∷ earlier → Reported ws c earlier
+  lines-report = session-reports pieces session
 
 -- ---- of calls by the library, from what C gets back
 
@@ -270,10 +267,10 @@ module _ {ws ws′ : List ℕ} (cs : List Call) (calls : library.Calls ws cs ws�
   library-reports = sequence-reports cs (library-calls calls)
 
 -- "A frame written and read again is the same frame, and the reverse."
-pub library-frame-read-again : (kind value : ℕ) (out out′ : List ℕ) (n number kind′ value′ : ℕ) → LibraryWrites kind value out out′ 0 n → LibraryReads (take n out′) number kind′ value′
+pub library-frame-read-again : (kind value : ℕ) (out out′ : List ℕ) (n number kind′ value′ : ℕ) → FrameWritten kind value out out′ 0 n → FrameRead (take n out′) number kind′ value′
     → (number ≡ 0) × (kind′ ≡ kind) × (value′ ≡ value)
 library-frame-read-again = library-read-back
 
-pub library-frame-written-again : (line out out′ : List ℕ) (kind value number n : ℕ) → LibraryReads line 0 kind value → length line ≤ length out → LibraryWrites kind value out out′ number n
+pub library-frame-written-again : (line out out′ : List ℕ) (kind value number n : ℕ) → FrameRead line 0 kind value → length line ≤ length out → FrameWritten kind value out out′ number n
     → (number ≡ 0) × (n ≡ length line) × (out′ ≡ line ++ drop (length line) out)
 library-frame-written-again = library-write-back

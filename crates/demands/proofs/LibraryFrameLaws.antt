@@ -16,9 +16,8 @@ use Rattle.frames.specs.declared.Written.the-variants.{Bytes}
 use Rattle.frames.proofs.OrderLaws.{Says, Settled, order, none, either, order-settled}
 use Rattle.frames.proofs.FrameLaws.{read-settled}
 use Rattle.frames.proofs.RoundTrip.{write-after-read, read-writable, written-is-read}
-use Rattle.gorgalhut.specs.Framed.{asked, Lined}
+use Rattle.gorgalhut.specs.Framed.{asked, Lined, FrameRead, FrameWritten}
 use Rattle.gorgalhut.proofs.FramedLaws.{asked-says, read-asked}
-use Rattle.demands.specs.LibraryFrames.{LibraryReads, LibraryWrites}
 
 -- a code and a number make an order or none
 asked-settled : (kind value : ℕ) → Settled (asked kind value)
@@ -34,7 +33,7 @@ zero-laid may line out out′ n wrote = go (lays may line out) refl
     go false e = let z : _≡_ {A = ℕ} 0 10 = wrote .number-is ∙ rw e refl in absurd (omega arith)
 
 -- what was written is read again: the same code and the same number in its body
-pub library-read-back : (kind value : ℕ) (out out′ : List ℕ) (n number kind′ value′ : ℕ) → LibraryWrites kind value out out′ 0 n → LibraryReads (take n out′) number kind′ value′
+pub library-read-back : (kind value : ℕ) (out out′ : List ℕ) (n number kind′ value′ : ℕ) → FrameWritten kind value out out′ 0 n → FrameRead (take n out′) number kind′ value′
     → (number ≡ 0) × (kind′ ≡ kind) × (value′ ≡ value)
 library-read-back kind value out out′ n number kind′ value′ wrote reads = go (asked kind value) (asked-settled kind value) refl
   where
@@ -47,7 +46,7 @@ library-read-back kind value out out′ n number kind′ value′ wrote reads = 
     go b none e = let z : _≡_ {A = ℕ} 0 10 = wrote .number-is ∙ rw e refl in absurd (omega arith)
 
 -- what was read is written again: the same bytes, and none behind them has changed
-pub library-write-back : (line out out′ : List ℕ) (kind value number n : ℕ) → LibraryReads line 0 kind value → length line ≤ length out → LibraryWrites kind value out out′ number n
+pub library-write-back : (line out out′ : List ℕ) (kind value number n : ℕ) → FrameRead line 0 kind value → length line ≤ length out → FrameWritten kind value out out′ number n
     → (number ≡ 0) × (n ≡ length line) × (out′ ≡ line ++ drop (length line) out)
 library-write-back line out out′ kind value number n reads room wrote = go (readOf line) (read-settled line) refl
   where

@@ -1,7 +1,6 @@
 -- Demands 2 and 3 hold of the calls that answer lines tell: sixteen digits of a word are enough after a setup, and they do not speak of packings.
 use Prim.Native.Nat.{ℕ, _+_, _/_, _^_, _≤_, _<_}
 use mathlib.Core.Path.{_≡_, refl, sym, ap, _∙_, subst}
-use mathlib.Core.Logic.{_⊎_}
 use mathlib.Core.Bool.{Bool, true, false}
 use mathlib.Core.List.{List, [], _∷_, _++_, map, flatten}
 use native.Mathlib.Omega.{arith}
@@ -11,10 +10,10 @@ use borrow.Author.Tests.{eq-eqb}
 use lib.Dec.{T, eqb, eqb→eq, lit≤}
 use lib.ListN.{length, drop}
 use Rattle.rules.specs.Links.{s, most}
-use Rattle.rules.specs.Entries.{door}
 use Rattle.rules.specs.Book.{isLinkNumber}
 use Rattle.rules.specs.Tests.{_or_}
-use Rattle.rules.specs.Examples.{Order, setupOf, insertOf, takeIt, lookAt, heldNow, auditIt}
+use Rattle.rules.specs.Examples.{Order, setupOf, insertOf, takeIt, lookAt, heldNow, auditIt, call}
+use Rattle.buffers.specs.Format.{lentOf}
 use Rattle.frames.specs.Digits.{number, digits}
 use Rattle.frames.proofs.DigitLaws.{number-digits}
 use Rattle.lines.specs.Lines.{linesOf, ordersOf}
@@ -24,13 +23,13 @@ use Rattle.sessions.proofs.SameAnswers.{session-answers}
 use Rattle.demands.specs.Histories.{Call, accepted, begins, linksOf, Sequence, none, hasSetup, fromSetup, since, links, brought, handed, ifDone, putIn, takenOut, inserts, takes, once, packings, steps, times, StillHeld, Smallest}
 use Rattle.demands.specs.Bounds.{perPacking, stepsBound}
 use Rattle.demands.specs.Asked.{Second, Held, Third, AtAnyTime, Two, Three}
-use Rattle.demands.specs.Told.{seen, told, Tells}
+use Rattle.demands.specs.Told.{seen, told, Tells, MadeSoFar, Packed, Reported}
 use Rattle.demands.proofs.HistoryLaws.{stands}
 use Rattle.demands.proofs.BoundLaws.{of-four}
 use Rattle.demands.proofs.SmallestLaws.{headOr}
 use Rattle.demands.proofs.AnswerLaws.{at-most}
 use Rattle.demands.proofs.SequenceLaws.{from-setup}
-use Rattle.demands.proofs.AskedLaws.{from-last, Before, UpTo, up-to, cut-at, sequence-held, sequence-two, sequence-third}
+use Rattle.demands.proofs.AskedLaws.{from-last, Before, UpTo, up-to, cut-at, sequence-held, sequence-two, sequence-third, sequence-reports}
 use Rattle.demands.proofs.ToldLaws.{SmallOrder, EachSmall, lines-fit, TellsSoFar, run-tells, run-answers}
 
 -- ---- the same setups, inserts and steps
@@ -166,9 +165,9 @@ module _ (c : Call) (now : List Call) (l : ℕ) (small : Small (putIn now)) (out
     take-refused = λ is no. let e = z .take-refused is no in (e .0, as-often (e .1));
     look-refused = λ is no. let e = z .look-refused is no in (e .0, as-often (e .1));
     insert-accepted = λ e is work door less. z .insert-accepted e is work door (omega (arith, ap length (put-seen now), ap length outs));
-    insert-refused = λ e is no.
-        subst (λ n. (c .work < most l) ⊎ (2 < door e) ⊎ (inserts (map seen now) ≡ n + most l)) (sym (ap length outs))
-        (subst (λ n. (c .work < most l) ⊎ (2 < door e) ⊎ (n ≡ takes now + most l)) (sym (ap length (put-seen now))) (z .insert-refused e is no));
+    insert-short = z .insert-short;
+    insert-door = z .insert-door;
+    insert-full = λ e is work door all. z .insert-full e is work door (omega (arith, ap length (put-seen now), ap length outs));
     held-count = λ is.
         let e = z .held-count is in
         (e .0, omega (arith, ap length (put-seen now), ap length outs, e .1, number-digits 16 (c .word) (omega (arith, e .1))));
@@ -245,6 +244,12 @@ more-packings : (l n p q : ℕ) → p ≤ q → stepsBound l n p ≤ stepsBound 
 unfolding stepsBound
 more-packings l n p q h = omega (arith, mul-le-mul-left (perPacking l) h)
 
+third-told : (now : List Call) (l : ℕ) → Third now l (packings now) → Third (map seen now) l (packings now)
+third-told now l z = record {
+  bounded = subst (λ es. steps (map seen now) ≤ stepsBound l (length es) (packings now)) (sym (put-seen now)) (omega (arith, steps-seen now, z .bounded));
+  few = subst (λ es. packings now ≤ length es / s l) (sym (put-seen now)) (z .few);
+}
+
 third-seen : (now : List Call) (l : ℕ) → Third now l (packings now) → Third (map seen now) l (inserts (map seen now) / s l)
 third-seen now l z = record {
   bounded =
@@ -306,3 +311,31 @@ module _ {ws ws′ work work′ out : List ℕ} (pieces : List (List ℕ)) (sess
 
   pub session-three : Three (told (length work) input out) (λ now l. inserts now / s l)
   session-three = subst (λ calls. Three calls (λ now l. inserts now / s l)) (sym (so-far .tells)) (seen-three (so-far .calls) (so-far .sequence) (so-far .small))
+
+  -- ---- the calls behind the lines
+
+  told-made : (later earlier : List Call) → told (length work) input out ≡ later ++ earlier → MadeSoFar ws earlier
+  told-made later earlier e =
+      let z = parted (so-far .calls) later earlier (sym (so-far .tells) ∙ e) in
+      let u : UpTo ws (z .earlier′) = up-to (z .later′) (z .earlier′) (subst (λ cs. Sequence ws cs ws′) (z .whole) (so-far .sequence)) in
+      record { calls = z .earlier′; left = u .left; made = u .calls; tells = z .before }
+
+  pub session-packed : (later earlier : List Call) → told (length work) input out ≡ later ++ earlier → hasSetup earlier ≡ true → Packed ws earlier
+  session-packed later earlier e has =
+      let m = told-made later earlier e in
+      let f = m .calls in
+      let had : hasSetup f ≡ true = sym (has-seen f) ∙ ap hasSetup (m .tells) ∙ has in
+      record {
+        so-far = m;
+        third = subst (λ earlier. Third (since earlier) (links earlier) (packings (since f))) (m .tells) (since-told (λ now l. Third now l (packings (since f))) f (third-told (since f) (links f) (sequence-third f (m .made) had)));
+      }
+
+  pub session-reports : (later : List Call) (c : Call) (earlier : List Call) → told (length work) input out ≡ later ++ c ∷ earlier → Reported ws c earlier
+  unfolding seen
+  session-reports later c earlier e =
+      let z = split (so-far .calls) later c earlier (sym (so-far .tells) ∙ e) in
+      let r = sequence-reports (so-far .calls) (so-far .sequence) (z .later′) (z .c′) (z .earlier′) (z .whole) in
+      record {
+        so-far = record { calls = z .earlier′; left = r .found; made = r .calls; tells = z .before };
+        steps-are = subst (λ c. c .steps ≡ call (c .work) (c .order) (lentOf (r .found)) .steps) (z .same) (r .steps-are);
+      }

@@ -1,10 +1,9 @@
--- Demands 2 and 3, asked of a list of calls, the latest first: of calls that were made, of those that a session's lines tell, of those by the library.
+-- Demands 2 and 3, asked of a list of calls, the latest first, by what was ordered, lent and answered: of calls that were made, of those that a session's lines tell, of those by the library.
 use Prim.Native.Nat.{ℕ, _+_, _/_, _≤_, _<_}
 use mathlib.Core.Path.{_≡_}
-use mathlib.Core.Logic.{_⊎_}
 use mathlib.Core.Bool.{true, false}
 use mathlib.Core.List.{List, _∷_, _++_}
-use Rattle.rules.specs.declared.Answer.the-variants.{Done, NoneHeld}
+use Rattle.rules.specs.declared.Answer.the-variants.{Done, WorkShort, Full, NoneHeld, DoorAbove}
 use Rattle.rules.specs.Entries.{door}
 use Rattle.rules.specs.Links.{s, most}
 use Rattle.rules.specs.Examples.{insertOf, takeIt, lookAt, heldNow, auditIt, call}
@@ -30,8 +29,10 @@ pub record Second (c : Call) (earlier : List Call) (l : ℕ) : Type 0 where
   pub look-refused : c .order ≡ lookAt → accepted c ≡ false → (c .answer ≡ NoneHeld) × AsOften earlier
   -- an insert with its work area and a known door is accepted while fewer than H are held
   pub insert-accepted : (e : ℕ) → c .order ≡ insertOf e → most l ≤ c .work → door e ≤ 2 → inserts earlier < takes earlier + most l → c .answer ≡ Done
-  -- and is refused for no other reason
-  pub insert-refused : (e : ℕ) → c .order ≡ insertOf e → accepted c ≡ false → (c .work < most l) ⊎ (2 < door e) ⊎ (inserts earlier ≡ takes earlier + most l)
+  -- and refused for nothing else: without its work area with 3, else for its door with 7, else where H are held with 5
+  pub insert-short : (e : ℕ) → c .order ≡ insertOf e → c .work < most l → c .answer ≡ WorkShort
+  pub insert-door : (e : ℕ) → c .order ≡ insertOf e → most l ≤ c .work → 2 < door e → c .answer ≡ DoorAbove
+  pub insert-full : (e : ℕ) → c .order ≡ insertOf e → most l ≤ c .work → door e ≤ 2 → inserts earlier ≡ takes earlier + most l → c .answer ≡ Full
   -- "held gives the count"
   pub held-count : c .order ≡ heldNow → (c .answer ≡ Done) × (takes earlier + c .word ≡ inserts earlier)
   -- the order rule is never broken
@@ -66,8 +67,8 @@ pub record Two (cs : List Call) : Type 0 where
 abbrev pub Three : List Call → (List Call → ℕ → ℕ) → Type 0
 Three cs packed = AtAnyTime cs (λ now l. Third now l (packed now l))
 
--- demand 3: "the steps that each call reports are those of the rules", on the words that the calls before it left of ws
+-- demand 3: "the steps that each call reports are those of the rules", on the words that it found after these calls, from ws on
 pub record Reports (ws : List ℕ) (c : Call) (earlier : List Call) : Type 0 where
-  pub before : List ℕ
-  pub calls : Sequence ws earlier before
-  pub steps-are : c .steps ≡ call (c .work) (c .order) (lentOf before) .steps
+  pub found : List ℕ
+  pub calls : Sequence ws earlier found
+  pub steps-are : c .steps ≡ call (c .work) (c .order) (lentOf found) .steps

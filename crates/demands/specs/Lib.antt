@@ -6,5 +6,4 @@ pub mod Tallies
 pub mod Asked
 pub mod Told
 pub mod Library
-pub mod LibraryFrames
 pub mod Existence

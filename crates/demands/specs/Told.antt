@@ -1,4 +1,4 @@
--- What a session tells those at the gate: its lines, and the lines that answered them. Nothing else is looked at.
+-- What a session tells those at the gate: its lines, and the lines that answered them; beside them only the length of the work area is looked at.
 use Prim.Native.Nat.{ℕ, _<_}
 use mathlib.Core.Path.{_≡_, refl}
 use mathlib.Core.Bool.{false}
@@ -14,9 +14,11 @@ use Rattle.frames.specs.Digits.{number, numberAfter, valueOf, capital, digits, 
 use Rattle.frames.specs.Frames.{readOf}
 use Rattle.frames.specs.Orders.{orderOf}
 use Rattle.frames.specs.declared.Order.{Order}
+use Rattle.buffers.specs.Format.{lentOf}
 use Rattle.lines.specs.Lines.{lineAfter, endedBy, endedWithin, leftBy, lastLine, ordersOf}
 use Rattle.sessions.specs.Runs.{asked}
-use Rattle.demands.specs.Histories.{Call, Sequence}
+use Rattle.demands.specs.Histories.{Call, Sequence, since, links, packings}
+use Rattle.demands.specs.Asked.{Third}
 
 -- the call that a frame and its answer line tell: "answer, 2 digits (10 is 0A); word, 16; steps, 8"; of packings a line tells nothing
 unfoldable pub toldBy : ℕ → Order → List ℕ → Call
@@ -66,6 +68,23 @@ pub record Tells (n : ℕ) (ws ws′ input out : List ℕ) : Type 0 where
   pub made : Sequence ws calls ws′
   pub tells : told n input out ≡ map seen calls
   pub answers : AnswersEach (ordersOf input) out
+
+-- calls that were made from ws on, of which these are told
+pub record MadeSoFar (ws : List ℕ) (earlier : List Call) : Type 0 where
+  pub calls : List Call
+  pub left : List ℕ
+  pub made : Sequence ws calls left
+  pub tells : map seen calls ≡ earlier
+
+-- demand 3's bound of those told, with the packings that the calls made
+pub record Packed (ws : List ℕ) (earlier : List Call) : Type 0 where
+  pub so-far : MadeSoFar ws earlier
+  pub third : Third (since earlier) (links earlier) (packings (since (so-far .calls)))
+
+-- and its first half: the steps that a line tells are those of the rules, on the words that the calls so far left
+pub record Reported (ws : List ℕ) (c : Call) (earlier : List Call) : Type 0 where
+  pub so-far : MadeSoFar ws earlier
+  pub steps-are : c .steps ≡ orders.call (c .work) (c .order) (lentOf (so-far .left)) .steps
 
 -- "0001", "zz", "03" and "02", answered 0, 10, 0 with an entry and two steps, and 6
 pub example : told 16 (48 ∷ 48 ∷ 48 ∷ 49 ∷ 10 ∷ 122 ∷ 122 ∷ 10 ∷ 48 ∷ 51 ∷ 10 ∷ 48 ∷ 50 ∷ 10 ∷ []) (answerLine 0 0 0 ++ answerLine 10 0 0 ++ answerLine 0 0x0000000701000001 2 ++ answerLine 6 0 0)

@@ -3,11 +3,12 @@ use Prim.Native.Nat.{ℕ}
 use mathlib.Core.Path.{_≡_, refl, sym, ap, _∙_}
 use mathlib.Core.Bool.{Bool, true, false}
 use mathlib.Core.List.{List}
+use lib.ListN.{length}
 use Rattle.rules.specs.Answers.{isDone}
 use Rattle.rules.specs.Queue.{Queue}
 use Rattle.rules.specs.Calls as rules
 use Rattle.buffers.specs.Format.{lentOf, buffersOf}
-use Rattle.gorgalhut.specs.Answered.{Answered}
+use Rattle.gorgalhut.specs.Answered.{Answered, PutIn}
 use Rattle.gorgalhut.specs.Framed.{Lined}
 
 -- the same number, word and steps, and the same link number, counters and entries of every buffer
@@ -34,6 +35,15 @@ answered-agree ws ws₁ ws₂ o number₁ number₂ word₁ word₂ steps₁ ste
     both : (b : Bool) → isDone (o .answer) ≡ b → rules.queueOf (lentOf ws₁) ≡ rules.queueOf (lentOf ws₂)
     both true e = one .queue-is e ∙ sym (two .queue-is e)
     both false e = ap (λ ws. rules.queueOf (lentOf ws)) (one .refused e ∙ sym (two .refused e))
+
+-- and of an insert whether it packed
+pub put-agree : (entry : ℕ) (ws ws₁ ws₂ work work₁ work₂ : List ℕ) (number₁ number₂ word₁ word₂ steps₁ steps₂ : ℕ) (packed₁ packed₂ : Bool)
+    → PutIn entry ws ws₁ work work₁ number₁ word₁ steps₁ packed₁ → PutIn entry ws ws₂ work work₂ number₂ word₂ steps₂ packed₂
+    → Agree ws₁ ws₂ number₁ number₂ word₁ word₂ steps₁ steps₂ × (packed₁ ≡ packed₂)
+put-agree entry ws ws₁ ws₂ work work₁ work₂ number₁ number₂ word₁ word₂ steps₁ steps₂ packed₁ packed₂ one two = (
+  answered-agree ws ws₁ ws₂ (rules.insert (length work) entry (lentOf ws)) number₁ number₂ word₁ word₂ steps₁ steps₂ (one .0) (two .0),
+  one .1 ∙ sym (two .1),
+)
 
 -- a frame or an answer line: the same number, the same count of bytes, the same buffer
 pub lined-agree : (may : Bool) (line out out₁ out₂ : List ℕ) (number₁ number₂ written₁ written₂ : ℕ)

@@ -1,6 +1,6 @@
 -- Orders by code and body, read and written.
 use mathlib.Core.Path.{_≡_, refl, ap, sym, _∙_}
-use mathlib.Core.Bool.{Bool, true, false, cond}
+use mathlib.Core.Bool.{Bool, true, false}
 use mathlib.Core.List.{List}
 use Prim.Native.Nat.{ℕ, _<_, _≤_, _^_}
 use native.Mathlib.Omega.{arith}
@@ -21,14 +21,9 @@ use Rattle.frames.specs.declared.Written.the-variants.{Bytes, Refused}
 use Rattle.frames.proofs.AnswerLaws.{done-same, not-done, by-test}
 use Rattle.frames.proofs.OrderLaws.{code-below, body-below, order-again, Says, order-says}
 use Rattle.frames.proofs.RoundTrip.{read-fits, read-writable}
-use Rattle.gorgalhut.specs.Framed.{asked, codeIn, bodyIn, mayIn, lineIn, Lined}
+use Rattle.gorgalhut.specs.Framed.{asked, codeIn, bodyIn, mayIn, lineIn, Lined, FrameRead}
 
 -- ---- reading
-
-pub record Told (b : Back Order) (number code body : ℕ) : Type 0 where
-  pub number-is : number ≡ b .number
-  pub code-is : code ≡ codeIn (b .values)
-  pub body-is : body ≡ bodyIn (b .values)
 
 module _ (b : Back Order) (r : ReadFrame) (back : readBack r ≡ b) where
   pub order-back : (o : Order) → r ≡ Read o → done o ≡ b
@@ -37,19 +32,20 @@ module _ (b : Back Order) (r : ReadFrame) (back : readBack r ≡ b) where
   pub refused-back : r ≡ NotAFrame → refused ≡ b
   refused-back e = ap readBack (sym e) ∙ back
 
-  pub told-order : (o : Order) (code body : ℕ) → r ≡ Read o → code ≡ codeOf o → body ≡ bodyOf o → Told b 0 code body
-  told-order o code body e p q = record {
-    number-is = ap (λ (x : Back Order). x .number) (order-back o e);
-    code-is = p ∙ ap (λ (x : Back Order). codeIn (x .values)) (order-back o e);
-    body-is = q ∙ ap (λ (x : Back Order). bodyIn (x .values)) (order-back o e);
-  }
+module _ (line : List ℕ) (r : ReadFrame) (back : readBack r ≡ readOf line) where
+  pub told-order : (o : Order) (kind value : ℕ) → r ≡ Read o → kind ≡ codeOf o → value ≡ bodyOf o → FrameRead line 0 kind value
+  told-order o kind value e p q =
+      let same = order-back (readOf line) r back o e in
+      record {
+        number-is = ap (λ (x : Back Order). x .number) same;
+        kind-is = p ∙ ap (λ (x : Back Order). codeIn (x .values)) same;
+        value-is = q ∙ ap (λ (x : Back Order). bodyIn (x .values)) same;
+      }
 
-  pub told-refused : r ≡ NotAFrame → Told b 10 0 0
-  told-refused e = record {
-    number-is = ap (λ (x : Back Order). x .number) (refused-back e);
-    code-is = ap (λ (x : Back Order). codeIn (x .values)) (refused-back e);
-    body-is = ap (λ (x : Back Order). bodyIn (x .values)) (refused-back e);
-  }
+  pub told-refused : r ≡ NotAFrame → FrameRead line 10 0 0
+  told-refused e =
+      let same = refused-back (readOf line) r back e in
+      record { number-is = ap (λ (x : Back Order). x .number) same; kind-is = ap (λ (x : Back Order). codeIn (x .values)) same; value-is = ap (λ (x : Back Order). bodyIn (x .values)) same }
 
 pub code-byte : (r : ReadFrame) (o : Order) (code : ℕ) → r ≡ Read o → code ≡ codeOf o → code < 2 ^ 8
 code-byte r o code _ e = omega (arith, code-below o)

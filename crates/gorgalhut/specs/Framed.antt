@@ -7,6 +7,7 @@ use lib.Dec.{ltb}
 use lib.ListN.{length, drop}
 use Rattle.frames.specs.Answers.{Back, refused}
 use Rattle.frames.specs.Orders.{codeOf, widthOf, bodyOf, frameOf, orderOf, writable}
+use Rattle.frames.specs.Frames.{readOf}
 use Rattle.frames.specs.Lines.{lays}
 use Rattle.frames.specs.declared.Order.{Order}
 
@@ -38,3 +39,15 @@ pub record Lined (may : Bool) (line out out′ : List ℕ) (number written : ℕ
   pub number-is : number ≡ cond (lays may line out) 0 10
   pub written-is : written ≡ cond (lays may line out) (length line) 0
   pub after : out′ ≡ cond (lays may line out) (line ++ drop (length line) out) out
+
+-- ---- what the two exported functions promise
+
+-- of a line that was read: the number that comes back, its order's code and the number in its body
+pub record FrameRead (line : List ℕ) (number kind value : ℕ) : Type 0 where
+  pub number-is : number ≡ readOf line .number
+  pub kind-is : kind ≡ codeIn (readOf line .values)
+  pub value-is : value ≡ bodyIn (readOf line .values)
+
+-- of the order of a code and a number: its line, or 10 and nothing written
+abbrev pub FrameWritten : (kind value : ℕ) (out out′ : List ℕ) (number written : ℕ) → Type 0
+FrameWritten kind value out out′ number written = let os = asked kind value .values in Lined (mayIn os) (lineIn os) out out′ number written

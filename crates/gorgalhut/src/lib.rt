@@ -10,11 +10,10 @@ ghost use lib.Dec.{ltb};
 ghost use Prim.Native.Nat.{_^_};
 ghost use Rattle.tally.specs.Day.{tallyOf};
 ghost use Rattle.frames.specs.Answers.{readBack};
-ghost use Rattle.frames.specs.Frames.{readOf};
 ghost use Rattle.frames.specs.AnswerLine.{answerLine};
 ghost use Rattle.gorgalhut.specs.Answered.{SetUp, PutIn, TakenOut, LookedAt, Counted, Audited};
 ghost use Rattle.gorgalhut.specs.Numbered.{callOf, named, tallied};
-ghost use Rattle.gorgalhut.specs.Framed.{asked, codeIn, bodyIn, mayIn, lineIn, Lined};
+ghost use Rattle.gorgalhut.specs.Framed.{asked, Lined, FrameRead, FrameWritten};
 
 // Whether the array has a book and the book keeps every book rule.
 #[no_mangle]
@@ -189,9 +188,7 @@ const NOT_A_FRAME: u8 = 10;
 // Reads a line without its 0A: the order's code and the number in its body.
 #[no_mangle]
 pub extern "C" fn gorgalhut_read_frame(line: &[u8], kind: &mut u8, value: &mut u64) -> u8
-    ensures { λ r. ⌜ r ≡ readOf (now (line .entry)) .number ⌝ }
-    ensures { λ r. ⌜ now (kind .exit) ≡ codeIn (readOf (now (line .entry)) .values) ⌝ }
-    ensures { λ r. ⌜ now (value .exit) ≡ bodyIn (readOf (now (line .entry)) .values) ⌝ }
+    ensures { λ r. ⌜ FrameRead (now (line .entry)) r (now (kind .exit)) (now (value .exit)) ⌝ }
 {
     match frames::read(line) {
         frames::ReadFrame::Order(order) => {
@@ -240,7 +237,7 @@ pub extern "C" fn gorgalhut_write_frame(
     out: &mut [u8],
     written: &mut usize,
 ) -> u8
-    ensures { λ r. ⌜ Lined (mayIn (asked kind value .values)) (lineIn (asked kind value .values)) (now (out .entry)) (now (out .exit)) r (now (written .exit)) ⌝ }
+    ensures { λ r. ⌜ FrameWritten kind value (now (out .entry)) (now (out .exit)) r (now (written .exit)) ⌝ }
 {
     match asked(kind, value) {
         frames::ReadFrame::Order(order) => match frames::write(order, out) {

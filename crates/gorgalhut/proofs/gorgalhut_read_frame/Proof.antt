@@ -24,10 +24,10 @@ enum-told : tie.Need-enum-told
 enum-told c = search needs
 
 returns : tie.Need-returns
-returns c = let t = told-order _ _ (c .before .before .before .before .before .read .ensures) _ _ _ (c .before .before .before .order .given .1) (c .before .code-of .ensures) (c .body-of .ensures) in (t .number-is, (t .code-is, t .body-is))
+returns c = told-order _ _ (c .before .before .before .before .before .read .ensures) _ _ _ (c .before .before .before .order .given .1) (c .before .code-of .ensures) (c .body-of .ensures)
 
 returns-2 : tie.Need-returns-2
-returns-2 c = let t = told-refused _ _ (c .before .before .read .ensures) (c .enum-told .given .1) in (t .number-is, (t .code-is, t .body-is))
+returns-2 c = told-refused _ _ (c .before .before .read .ensures) (c .enum-told .given .1)
 
 pub gorgalhut-read-frame-spec : {M : Type 1} → statement M
 gorgalhut-read-frame-spec =
