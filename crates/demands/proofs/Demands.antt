@@ -59,7 +59,7 @@ module _ (ws ws′ : List ℕ) (c : Call) (made : Made ws c ws′) where
   pub inside-the-lent : (length ws′ ≡ length ws) × ((p : ℕ) → words (linksIn ws′) ≤ p → getD ws′ p 0 ≡ getD ws p 0)
   inside-the-lent = (made .called .long, made .called .past)
 
-  -- nor is a word of the book that means nothing: the box may use it
+  -- nor is a word of the book that means nothing by the link number that the call leaves
   pub unused-untouched : (p : ℕ) → Unused (linksIn ws′) p → getD ws′ p 0 ≡ getD ws p 0
   unused-untouched = made .called .unused
 
@@ -232,7 +232,7 @@ sessions-by-contracts pieces = fed-session
 -- ---- of the answer lines of a session: any input in any pieces, over any array and work area, and what came out
 
 module _ {ws ws′ work work′ out : List ℕ} (pieces : List (List ℕ)) (session : Session (length work) ws work [] pieces ws′ work′ out) where
-  -- a run of lines is a sequence of calls, lines that are no frame left out: these and no others are answered 10; of each call its line tells answer, word and all digits of its steps
+  -- a run of lines is a sequence of calls, lines that are no frame left out: these and no others are answered 10; of each call its line tells its answer, sixteen digits of its word and all of its steps
   pub lines-are-calls : Tells (length work) ws ws′ (flatten pieces) out
   lines-are-calls = session-tells pieces session
 

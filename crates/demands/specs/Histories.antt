@@ -60,7 +60,7 @@ linksOf auditIt = 0
 abbrev pub begins : Call → Bool
 begins c = isSetup (c .order) and accepted c
 
--- the same came back from two calls, and where they were accepted, or the book was sound before, the same link number, counters and entries of every buffer stand afterwards
+-- the same came back from two calls, and where they were accepted, or the array was long enough and its book sound before, the same link number, counters and entries of every buffer stand afterwards
 pub record MadeSame (ws : List ℕ) (c d : Call) (ws′ vs′ : List ℕ) : Type 0 where
   pub answers : c .answer ≡ d .answer
   pub words-are : c .word ≡ d .word
@@ -72,7 +72,8 @@ pub record MadeSame (ws : List ℕ) (c d : Call) (ws′ vs′ : List ℕ) : Type
 -- ---- histories
 
 -- "a history is any sequence of calls on one array, each related to the next by the contracts of the calls, starting with an accepted setup": its calls, the latest
--- first, and the words that they left; the words before the setup may be any; between two calls the box may write words that no call reads
+-- first, and the words that they left; the words before the setup may be any; between two calls the box may write
+-- words past the stated length and unused words of the book
 pub data History : List Call → List ℕ → Type 0 where
   first : (ws ws′ : List ℕ) (c : Call) → begins c ≡ true → Made ws c ws′ → History (c ∷ []) ws′
   next : (ws ws′ : List ℕ) (c : Call) (cs : List Call) → History cs ws → Made ws c ws′ → History (c ∷ cs) ws′
@@ -87,7 +88,7 @@ abbrev pub links : List Call → ℕ
 links [] = 0
 links (c ∷ cs) = elim (begins c) [ true ↦ linksOf (c .order) | false ↦ links cs ]
 
--- any calls one after the other on one array, from the words ws on: before the first accepted setup too
+-- any calls one after the other on one array, from the words ws on: before the first accepted setup too; meanwhile the box may write as above
 pub data Sequence (ws : List ℕ) : List Call → List ℕ → Type 0 where
   none : Sequence ws [] ws
   more : (ws₁ ws₂ : List ℕ) (c : Call) (cs : List Call) → Sequence ws cs ws₁ → Made ws₁ c ws₂ → Sequence ws (c ∷ cs) ws₂

@@ -23,7 +23,8 @@ pub data Called (ws : List ℕ) : Call → List ℕ → Type 0 where
   held : (number word steps : ℕ) → Counted ws number word steps → Called ws (gotBack heldNow 0 number word steps false) ws
   audit : (number word steps : ℕ) → Audited ws number word steps → Called ws (gotBack auditIt 0 number word steps false) ws
 
--- calls by the library one after the other on one array, the latest first, from the words ws on; meanwhile the box may write words that no call reads
+-- calls by the library one after the other on one array, the latest first, from the words ws on; meanwhile the box may write words past
+-- the stated length and unused words of the book
 pub data Calls (ws : List ℕ) : List Call → List ℕ → Type 0 where
   none : Calls ws [] ws
   more : (ws₁ ws₂ : List ℕ) (c : Call) (cs : List Call) → Calls ws cs ws₁ → Called ws₁ c ws₂ → Calls ws (c ∷ cs) ws₂
