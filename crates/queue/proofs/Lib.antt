@@ -4,5 +4,6 @@ pub mod CallLaws
 pub mod SetupLaws
 pub mod AgreeLaws
 pub mod BesidesLaws
+pub mod DependLaws
 pub mod InsertCheckLaws
 pub mod InsertLaws
