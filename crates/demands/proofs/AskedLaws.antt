@@ -7,7 +7,7 @@ use mathlib.Core.Bool.{true}
 use mathlib.Core.List.{List, [], _∷_, _++_}
 use Rattle.rules.proofs.History.{packings-bound}
 use Rattle.demands.specs.Histories.{Call, Made, History, Sequence, none, more, hasSetup, fromSetup, since, links, packings, meanwhile}
-use Rattle.demands.specs.Asked.{Second, Held, Third, AtAnyTime, Two, Three, Reports}
+use Rattle.demands.specs.Asked.{EachCall, Held, Bounded, AtAnyTime, DemandTwo, DemandThree, Reports}
 use Rattle.demands.proofs.HistoryLaws.{stands}
 use Rattle.demands.proofs.BoundLaws.{few-steps, one-to-four}
 use Rattle.demands.proofs.SmallestLaws.{headOr, no-more, smallest-taken, smallest-seen}
@@ -17,7 +17,7 @@ use Rattle.demands.proofs.SequenceLaws.{from-setup, since-same, links-s
 -- ---- demand 2
 
 -- the next call of a history
-second-next : {cs : List Call} {ws : List ℕ} → History cs ws → (c : Call) (ws′ : List ℕ) → Made ws c ws′ → Second c (since cs) (links cs)
+second-next : {cs : List Call} {ws : List ℕ} → History cs ws → (c : Call) (ws′ : List ℕ) → Made ws c ws′ → EachCall c (since cs) (links cs)
 second-next h c ws′ made = record {
   take-smallest = smallest-taken h c ws′ made;
   look-smallest = smallest-seen h c ws′ made;
@@ -93,25 +93,25 @@ held-so cs h =
 pub sequence-held : {ws ws′ : List ℕ} (cs : List Call) → Sequence ws cs ws′ → hasSetup cs ≡ true → Held (since cs) (links cs)
 sequence-held cs calls has = ends-so Held cs calls has (held-so (fromSetup cs))
 
-pub sequence-two : {ws ws′ : List ℕ} (cs : List Call) → Sequence ws cs ws′ → Two cs
+pub sequence-two : {ws ws′ : List ℕ} (cs : List Call) → Sequence ws cs ws′ → DemandTwo cs
 sequence-two {ws} {ws′} cs calls = record {
   each = λ later c earlier e has.
       let b = cut-at later c earlier (subst (λ cs. Sequence ws cs ws′) e calls) in
-      from-last (Second c) earlier (second-next (from-setup (b .calls) has) c (b .ws₂) (b .made));
+      from-last (EachCall c) earlier (second-next (from-setup (b .calls) has) c (b .ws₂) (b .made));
   always = any-time Held cs calls (λ left ds before has. sequence-held ds before has);
 }
 
 -- ---- demand 3
 
-pub sequence-third : {ws ws′ : List ℕ} (cs : List Call) → Sequence ws cs ws′ → hasSetup cs ≡ true → Third (since cs) (links cs) (packings (since cs))
+pub sequence-third : {ws ws′ : List ℕ} (cs : List Call) → Sequence ws cs ws′ → hasSetup cs ≡ true → Bounded (since cs) (links cs) (packings (since cs))
 sequence-third cs calls has =
-    ends-so (λ now l. Third now l (packings now)) cs calls has (λ h. record {
+    ends-so (λ now l. Bounded now l (packings now)) cs calls has (λ h. record {
       bounded = few-steps (links (fromSetup cs)) (stands h .number) (stands h .goes);
       few = packings-bound (links (fromSetup cs)) (stands h .number) (stands h .goes);
     })
 
-pub sequence-three : {ws ws′ : List ℕ} (cs : List Call) → Sequence ws cs ws′ → Three cs (λ now l. packings now)
-sequence-three cs calls = any-time (λ now l. Third now l (packings now)) cs calls (λ left ds before has. sequence-third ds before has)
+pub sequence-three : {ws ws′ : List ℕ} (cs : List Call) → Sequence ws cs ws′ → DemandThree cs (λ now l. packings now)
+sequence-three cs calls = any-time (λ now l. Bounded now l (packings now)) cs calls (λ left ds before has. sequence-third ds before has)
 
 pub sequence-reports : {ws ws′ : List ℕ} (cs : List Call) → Sequence ws cs ws′ → (later : List Call) (c : Call) (earlier : List Call) → cs ≡ later ++ c ∷ earlier → Reports ws c earlier
 sequence-reports {ws} {ws′} cs calls later c earlier e =

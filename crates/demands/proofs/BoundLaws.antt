@@ -5,7 +5,7 @@ use mathlib.Core.List.{List, [], _∷_}
 use native.Mathlib.Omega.{arith}
 use lib.Dec.{T, leb, leb→le, lit≤}
 use lib.ListN.{getD}
-use Rattle.rules.specs.Links.{mostLinks}
+use Rattle.rules.specs.Links.{mostLinks, most}
 use Rattle.rules.specs.Queue.{Queue}
 use Rattle.rules.specs.Book.{isLinkNumber}
 use Rattle.rules.proofs.Table.{and-two}
@@ -41,6 +41,11 @@ paid = of-four Enough paid-one paid-two paid-three paid-four
 pub few-steps : (l : ℕ) → T (isLinkNumber l) → {n p t : ℕ} {q : Queue} → Since l n p t q → t ≤ stepsBound l n p
 unfolding stepsBound
 few-steps l number h = steps-bound l number (perInsert l) (perPacking l) (λ i. getD (credits l) i 0) (paid l number) h
+
+-- no queue holds more
+pub few-held : (l : ℕ) → T (isLinkNumber l) → most l ≤ 17280
+unfolding most
+few-held = of-four (λ l. most l ≤ 17280) (lit≤ tt) (lit≤ tt) (lit≤ tt) (lit≤ tt)
 
 -- one to four
 pub one-to-four : (l : ℕ) → T (isLinkNumber l) → (1 ≤ l) × (l ≤ 4)

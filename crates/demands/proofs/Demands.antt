@@ -30,7 +30,7 @@ use Rattle.demands.specs.Exact.{Answers}
 use Rattle.demands.specs.Bounds.{stepsBound}
 use Rattle.demands.specs.Tallies.{tallyAfter, sums}
 use Rattle.demands.specs.Unread.{SameUpTo}
-use Rattle.demands.specs.Asked.{Two, Three, Reports}
+use Rattle.demands.specs.Asked.{DemandTwo, DemandThree, Reports}
 use Rattle.demands.specs.Told.{told, Tells, Packed, Reported}
 use Rattle.demands.specs.Library as library
 use Rattle.gorgalhut.specs.Framed.{FrameRead, FrameWritten}
@@ -216,10 +216,10 @@ histories-exist = computed
 -- ---- demands 2 and 3 of any calls one after the other, as specs/Asked.antt asks them
 
 module _ {ws ws′ : List ℕ} (cs : List Call) (calls : Sequence ws cs ws′) where
-  pub calls-two : Two cs
+  pub calls-two : DemandTwo cs
   calls-two = sequence-two cs calls
 
-  pub calls-three : Three cs (λ now l. packings now)
+  pub calls-three : DemandThree cs (λ now l. packings now)
   calls-three = sequence-three cs calls
 
   pub calls-report : (later : List Call) (c : Call) (earlier : List Call) → cs ≡ later ++ c ∷ earlier → Reports ws c earlier
@@ -236,7 +236,7 @@ module _ {ws ws′ work work′ out : List ℕ} (pieces : List (List ℕ)) (sess
   pub lines-are-calls : Tells (length work) ws ws′ (flatten pieces) out
   lines-are-calls = session-tells pieces session
 
-  pub lines-two : Two (told (length work) (flatten pieces) out)
+  pub lines-two : DemandTwo (told (length work) (flatten pieces) out)
   lines-two = session-two pieces session
 
   -- P is the packings of the calls behind the lines
@@ -244,7 +244,7 @@ module _ {ws ws′ work work′ out : List ℕ} (pieces : List (List ℕ)) (sess
   lines-three = session-packed pieces session
 
   -- by the lines alone, which do not tell of packings: with the most that there can be, n divided by s(L), rounded down
-  pub lines-three-alone : Three (told (length work) (flatten pieces) out) (λ now l. inserts now / s l)
+  pub lines-three-alone : DemandThree (told (length work) (flatten pieces) out) (λ now l. inserts now / s l)
   lines-three-alone = session-three pieces session
 
   pub lines-report : (later : List Call) (c : Call) (earlier : List Call) → told (length work) (flatten pieces) out ≡ later ++ c ∷ earlier → Reported ws c earlier
@@ -257,10 +257,10 @@ pub library-call-made : {ws ws′ : List ℕ} {c : Call} → library.Called ws c
 library-call-made = library-made
 
 module _ {ws ws′ : List ℕ} (cs : List Call) (calls : library.Calls ws cs ws′) where
-  pub library-two : Two cs
+  pub library-two : DemandTwo cs
   library-two = sequence-two cs (library-calls calls)
 
-  pub library-three : Three cs (λ now l. packings now)
+  pub library-three : DemandThree cs (λ now l. packings now)
   library-three = sequence-three cs (library-calls calls)
 
   pub library-reports : (later : List Call) (c : Call) (earlier : List Call) → cs ≡ later ++ c ∷ earlier → Reports ws c earlier

@@ -30,7 +30,7 @@ use Rattle.buffers.specs.Format.{bookOf, lentOf}
 use Rattle.buffers.proofs.Exact.{sound-inside}
 use Rattle.queue.proofs.BookLaws.{describes, shaped}
 use Rattle.demands.specs.Histories.{Call, Made}
-use Rattle.demands.proofs.BoundLaws.{of-four, one-to-four}
+use Rattle.demands.proofs.BoundLaws.{of-four, few-held, one-to-four}
 use Rattle.rules.proofs.Tests.{truth}
 use Rattle.demands.proofs.CallLaws.{setup-steps}
 
@@ -53,9 +53,9 @@ owed-most (merger n c one two) d m bs h =
     distribute : (m x y z : ℕ) → m * (x + (y + z)) ≡ m * x + (m * y + m * z)
     distribute m x y z = omega arith
 
-few-mergers : (l : ℕ) → T (isLinkNumber l) → (mergersIn (treeOf l) ≤ 40) × (most l ≤ 17280)
-unfolding mergersIn treeOf linksFrom kMerger perfect most
-few-mergers = of-four (λ l. (mergersIn (treeOf l) ≤ 40) × (most l ≤ 17280)) (lit≤ tt, lit≤ tt) (lit≤ tt, lit≤ tt) (lit≤ tt, lit≤ tt) (lit≤ tt, lit≤ tt)
+few-mergers : (l : ℕ) → T (isLinkNumber l) → mergersIn (treeOf l) ≤ 40
+unfolding mergersIn treeOf linksFrom kMerger perfect
+few-mergers = of-four (λ l. mergersIn (treeOf l) ≤ 40) (lit≤ tt) (lit≤ tt) (lit≤ tt) (lit≤ tt)
 
 -- ---- what an insert may cost: 1,216 for each entry in I and 138,240 for a packing, whatever was called before
 
@@ -92,9 +92,7 @@ module _ (q : Queue) (shape : Shaped q) (kept : Kept 7 q) where
   t = treeOf (q .links)
 
   owes : owedIn t (q .buffers) ≤ 691200
-  owes =
-      let few = few-mergers (q .links) (kept .number) in
-      omega (arith, owed-most t 0 40 (q .buffers) (omega (arith, few .0)), kept .at-most, few .1)
+  owes = omega (arith, owed-most t 0 40 (q .buffers) (omega (arith, few-mergers (q .links) (kept .number))), kept .at-most, few-held (q .links) (kept .number))
 
   beside : Beside t (length (q .buffers))
   beside = beside-tree (q .links) (q .buffers) (omega (arith, shape .buffers))

@@ -7,10 +7,9 @@ use native.Mathlib.Omega.{arith}
 use native.Mathlib.Decide.{decLt}
 use native.Mathlib.Nat.{mul-le-mul-left}
 use borrow.Author.Tests.{eq-eqb}
-use lib.Dec.{T, eqb, eqb→eq, lit≤}
+use lib.Dec.{T, eqb, eqb→eq}
 use lib.ListN.{length, drop}
-use Rattle.rules.specs.Links.{s, most}
-use Rattle.rules.specs.Book.{isLinkNumber}
+use Rattle.rules.specs.Links.{s}
 use Rattle.rules.specs.Tests.{_or_}
 use Rattle.rules.specs.Examples.{Order, setupOf, insertOf, takeIt, lookAt, heldNow, auditIt, call}
 use Rattle.buffers.specs.Format.{lentOf}
@@ -22,10 +21,10 @@ use Rattle.sessions.specs.Pieces.{Session}
 use Rattle.sessions.proofs.SameAnswers.{session-answers}
 use Rattle.demands.specs.Histories.{Call, accepted, begins, linksOf, Sequence, none, hasSetup, fromSetup, since, links, brought, handed, ifDone, putIn, takenOut, inserts, takes, once, packings, steps, times, StillHeld, Smallest}
 use Rattle.demands.specs.Bounds.{perPacking, stepsBound}
-use Rattle.demands.specs.Asked.{Second, Held, Third, AtAnyTime, Two, Three}
+use Rattle.demands.specs.Asked.{EachCall, Held, Bounded, AtAnyTime, DemandTwo, DemandThree}
 use Rattle.demands.specs.Told.{seen, told, Tells, MadeSoFar, Packed, Reported}
 use Rattle.demands.proofs.HistoryLaws.{stands}
-use Rattle.demands.proofs.BoundLaws.{of-four}
+use Rattle.demands.proofs.BoundLaws.{few-held}
 use Rattle.demands.proofs.SmallestLaws.{headOr}
 use Rattle.demands.proofs.AnswerLaws.{at-most}
 use Rattle.demands.proofs.SequenceLaws.{from-setup}
@@ -155,7 +154,7 @@ module _ (c : Call) (now : List Call) (l : ℕ) (small : Small (putIn now)) (out
   as-often : ((v : ℕ) → times v (takenOut now) ≡ times v (putIn now)) → (v : ℕ) → times v (takenOut (map seen now)) ≡ times v (putIn (map seen now))
   as-often e v = ap (times v) outs ∙ e v ∙ sym (ap (times v) (put-seen now))
 
-  second-seen : Second c now l → Second (seen c) (map seen now) l
+  second-seen : EachCall c now l → EachCall (seen c) (map seen now) l
   unfolding seen
   second-seen z = record {
     take-smallest = λ is done. smallest-seen (z .take-smallest is done);
@@ -173,10 +172,6 @@ module _ (c : Call) (now : List Call) (l : ℕ) (small : Small (putIn now)) (out
         (e .0, omega (arith, ap length (put-seen now), ap length outs, e .1, number-digits 16 (c .word) (omega (arith, e .1))));
     audit-done = λ is. z .audit-done is;
   }
-
-few-held : (l : ℕ) → T (isLinkNumber l) → most l ≤ 17280
-unfolding most
-few-held = of-four (λ l. most l ≤ 17280) (lit≤ tt) (lit≤ tt) (lit≤ tt) (lit≤ tt)
 
 -- what is known of calls one after the other, an accepted setup among them
 module _ {ws ws′ : List ℕ} (cs : List Call) (calls : Sequence ws cs ws′) (each-small : EachSmall cs) (has : hasSetup cs ≡ true) where
@@ -244,13 +239,13 @@ more-packings : (l n p q : ℕ) → p ≤ q → stepsBound l n p ≤ stepsBound 
 unfolding stepsBound
 more-packings l n p q h = omega (arith, mul-le-mul-left (perPacking l) h)
 
-third-told : (now : List Call) (l : ℕ) → Third now l (packings now) → Third (map seen now) l (packings now)
+third-told : (now : List Call) (l : ℕ) → Bounded now l (packings now) → Bounded (map seen now) l (packings now)
 third-told now l z = record {
   bounded = subst (λ es. steps (map seen now) ≤ stepsBound l (length es) (packings now)) (sym (put-seen now)) (omega (arith, steps-seen now, z .bounded));
   few = subst (λ es. packings now ≤ length es / s l) (sym (put-seen now)) (z .few);
 }
 
-third-seen : (now : List Call) (l : ℕ) → Third now l (packings now) → Third (map seen now) l (inserts (map seen now) / s l)
+third-seen : (now : List Call) (l : ℕ) → Bounded now l (packings now) → Bounded (map seen now) l (inserts (map seen now) / s l)
 third-seen now l z = record {
   bounded =
       subst (λ es. steps (map seen now) ≤ stepsBound l (length es) (length es / s l)) (sym (put-seen now))
@@ -269,27 +264,27 @@ module _ {ws ws′ : List ℕ} (cs : List Call) (calls : Sequence ws cs ws′) (
       let u : UpTo ws f = up-to (z .later′) f (subst (λ cs. Sequence ws cs ws′) (z .whole) calls) in
       subst (λ earlier. P (since earlier) (links earlier)) (z .before) (since-told P f (at-end (u .left) f (u .calls) smalls had))
 
-  each-seen : (later : List Call) (c : Call) (earlier : List Call) → map seen cs ≡ later ++ c ∷ earlier → hasSetup earlier ≡ true → Second c (since earlier) (links earlier)
+  each-seen : (later : List Call) (c : Call) (earlier : List Call) → map seen cs ≡ later ++ c ∷ earlier → hasSetup earlier ≡ true → EachCall c (since earlier) (links earlier)
   each-seen later c earlier e has =
       let z = split cs later c earlier e in
       let f = z .earlier′ in
       let had : hasSetup f ≡ true = sym (has-seen f) ∙ ap hasSetup (z .before) ∙ has in
       let smalls : EachSmall f = small-before (z .later′) (z .c′ ∷ f) (subst EachSmall (z .whole) each-small) .1 in
       let b : Before ws (z .c′) f = cut-at (z .later′) (z .c′) f (subst (λ cs. Sequence ws cs ws′) (z .whole) calls) in
-      let told : Second (seen (z .c′)) (map seen (since f)) (links f) =
+      let told : EachCall (seen (z .c′)) (map seen (since f)) (links f) =
       second-seen (z .c′) (since f) (links f) (puts f (b .calls) smalls had) (outs f (b .calls) smalls had) (fit f (b .calls) smalls had)
       (sequence-two cs calls .each (z .later′) (z .c′) f (z .whole) had) in
-      subst (λ earlier. Second c (since earlier) (links earlier)) (z .before)
-      (subst (λ c. Second c (since (map seen f)) (links (map seen f))) (z .same) (since-told (Second (seen (z .c′))) f told))
+      subst (λ earlier. EachCall c (since earlier) (links earlier)) (z .before)
+      (subst (λ c. EachCall c (since (map seen f)) (links (map seen f))) (z .same) (since-told (EachCall (seen (z .c′))) f told))
 
-  pub seen-two : Two (map seen cs)
+  pub seen-two : DemandTwo (map seen cs)
   seen-two = record {
     each = each-seen;
     always = any-time-told Held (λ left ds before smalls has. held-seen (since ds) (links ds) (outs ds before smalls has) (sequence-held ds before has));
   }
 
-  pub seen-three : Three (map seen cs) (λ now l. inserts now / s l)
-  seen-three = any-time-told (λ now l. Third now l (inserts now / s l)) (λ left ds before smalls has. third-seen (since ds) (links ds) (sequence-third ds before has))
+  pub seen-three : DemandThree (map seen cs) (λ now l. inserts now / s l)
+  seen-three = any-time-told (λ now l. Bounded now l (inserts now / s l)) (λ left ds before smalls has. third-seen (since ds) (links ds) (sequence-third ds before has))
 
 -- ---- a session
 
@@ -306,11 +301,11 @@ module _ {ws ws′ work work′ out : List ℕ} (pieces : List (List ℕ)) (sess
   pub session-tells : Tells (length work) ws ws′ input out
   session-tells = record { calls = so-far .calls; made = so-far .sequence; tells = so-far .tells; answers = run-answers run refl }
 
-  pub session-two : Two (told (length work) input out)
-  session-two = subst Two (sym (so-far .tells)) (seen-two (so-far .calls) (so-far .sequence) (so-far .small))
+  pub session-two : DemandTwo (told (length work) input out)
+  session-two = subst DemandTwo (sym (so-far .tells)) (seen-two (so-far .calls) (so-far .sequence) (so-far .small))
 
-  pub session-three : Three (told (length work) input out) (λ now l. inserts now / s l)
-  session-three = subst (λ calls. Three calls (λ now l. inserts now / s l)) (sym (so-far .tells)) (seen-three (so-far .calls) (so-far .sequence) (so-far .small))
+  pub session-three : DemandThree (told (length work) input out) (λ now l. inserts now / s l)
+  session-three = subst (λ calls. DemandThree calls (λ now l. inserts now / s l)) (sym (so-far .tells)) (seen-three (so-far .calls) (so-far .sequence) (so-far .small))
 
   -- ---- the calls behind the lines
 
@@ -327,7 +322,7 @@ module _ {ws ws′ work work′ out : List ℕ} (pieces : List (List ℕ)) (sess
       let had : hasSetup f ≡ true = sym (has-seen f) ∙ ap hasSetup (m .tells) ∙ has in
       record {
         so-far = m;
-        third = subst (λ earlier. Third (since earlier) (links earlier) (packings (since f))) (m .tells) (since-told (λ now l. Third now l (packings (since f))) f (third-told (since f) (links f) (sequence-third f (m .made) had)));
+        third = subst (λ earlier. Bounded (since earlier) (links earlier) (packings (since f))) (m .tells) (since-told (λ now l. Bounded now l (packings (since f))) f (third-told (since f) (links f) (sequence-third f (m .made) had)));
       }
 
   pub session-reports : (later : List Call) (c : Call) (earlier : List Call) → told (length work) input out ≡ later ++ c ∷ earlier → Reported ws c earlier

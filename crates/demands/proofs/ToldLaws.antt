@@ -4,14 +4,14 @@ use mathlib.Core.Path.{_≡_, refl, sym, ap, _∙_, subst}
 use mathlib.Core.Bool.{false}
 use mathlib.Core.List.{List, [], _∷_, _++_, map}
 use native.Mathlib.Omega.{arith}
+use native.Mathlib.Decide.{ℕ-discrete}
 use lib.ListN.{length, take, drop}
 use lib.Seq.{take-at, drop-at}
-use Rattle.rules.specs.declared.Answer.{Answer}
-use Rattle.rules.specs.declared.Answer.the-variants.{Done, NoSuchLinks, ArrayShort, WorkShort, BookBroken, Full, NoneHeld, DoorAbove, NoPlace, OrderBroken, NotAFrame}
+use Rattle.rules.specs.declared.Answer.the-variants.{NotAFrame}
 use Rattle.rules.specs.Answers.{numberOf, answerOf, isDone}
 use Rattle.rules.specs.Calls as rules
 use Rattle.rules.specs.Examples as orders
-use Rattle.rules.proofs.AnswerLaws.{answer-again, answer-few}
+use Rattle.rules.proofs.AnswerLaws.{answer-again, answer-few, same-number}
 use Rattle.frames.specs.Answers.{Back, refused}
 use Rattle.frames.specs.AnswerLine.{answerLine}
 use Rattle.frames.specs.Digits.{number, digits}
@@ -179,20 +179,11 @@ no-row z = elim z [ ]
 
 -- so no call does
 never-ten : (ws next : List ℕ) (c : Call) → Made ws c next → numberOf (c .answer) < 10
-never-ten ws next c made = go (c .answer) refl
-  where
-    go : (answer : Answer) → c .answer ≡ answer → numberOf answer < 10
-    go Done e = omega arith
-    go NoSuchLinks e = omega arith
-    go ArrayShort e = omega arith
-    go WorkShort e = omega arith
-    go BookBroken e = omega arith
-    go Full e = omega arith
-    go NoneHeld e = omega arith
-    go DoorAbove e = omega arith
-    go NoPlace e = omega arith
-    go OrderBroken e = omega arith
-    go NotAFrame e = absurd (no-row (made-exactly ws next c made NotAFrame .0 e))
+never-ten ws next c made =
+    elim (ℕ-discrete (numberOf (c .answer)) 10) [
+      | yes ten ↦ absurd (no-row (made-exactly ws next c made NotAFrame .0 (same-number (c .answer) NotAFrame ten)))
+      | no other ↦ omega (arith, answer-few (c .answer))
+    ]
 
 line-answers : (n : ℕ) (ws next work left : List ℕ) (values : List Order) → After ws next (valuesCall n values (lentOf ws)) → Left values ws next work left (valuesCall n values (lentOf ws) .answer)
     → length work ≡ n → AnswersLine values (sessions.answerOf (valuesCall n values (lentOf ws)))

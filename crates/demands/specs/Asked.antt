@@ -16,7 +16,7 @@ abbrev AsOften : List Call → Type 0
 AsOften now = (v : ℕ) → times v (takenOut now) ≡ times v (putIn now)
 
 -- of a call after these calls, all since a setup of l links
-pub record Second (c : Call) (earlier : List Call) (l : ℕ) : Type 0 where
+pub record EachCall (c : Call) (earlier : List Call) (l : ℕ) : Type 0 where
   -- "After the last accepted setup, each take hands out the smallest entry put in and still held"
   pub take-smallest : c .order ≡ takeIt → accepted c ≡ true → Smallest (c .word) earlier
   -- "Look does the same and removes nothing."
@@ -50,7 +50,7 @@ pub record Held (now : List Call) (l : ℕ) : Type 0 where
   pub at-most : inserts now ≤ takes now + most l
 
 -- of the same calls and p packings: "with n accepted inserts and P packings the steps total at most ..; P is at most n divided by s(L), rounded down"
-pub record Third (now : List Call) (l p : ℕ) : Type 0 where
+pub record Bounded (now : List Call) (l p : ℕ) : Type 0 where
   pub bounded : steps now ≤ stepsBound l (inserts now) p
   pub few : p ≤ inserts now / s l
 
@@ -59,13 +59,13 @@ abbrev pub AtAnyTime : List Call → (List Call → ℕ → Type 0) → Type 0
 AtAnyTime cs P = (later earlier : List Call) → cs ≡ later ++ earlier → hasSetup earlier ≡ true → P (since earlier) (links earlier)
 
 -- demand 2: of every call after an accepted setup, and at any time
-pub record Two (cs : List Call) : Type 0 where
-  pub each : (later : List Call) (c : Call) (earlier : List Call) → cs ≡ later ++ c ∷ earlier → hasSetup earlier ≡ true → Second c (since earlier) (links earlier)
+pub record DemandTwo (cs : List Call) : Type 0 where
+  pub each : (later : List Call) (c : Call) (earlier : List Call) → cs ≡ later ++ c ∷ earlier → hasSetup earlier ≡ true → EachCall c (since earlier) (links earlier)
   pub always : AtAnyTime cs Held
 
 -- demand 3's bound at any time, with as many packings as said
-abbrev pub Three : List Call → (List Call → ℕ → ℕ) → Type 0
-Three cs packed = AtAnyTime cs (λ now l. Third now l (packed now l))
+abbrev pub DemandThree : List Call → (List Call → ℕ → ℕ) → Type 0
+DemandThree cs packed = AtAnyTime cs (λ now l. Bounded now l (packed now l))
 
 -- demand 3: "the steps that each call reports are those of the rules", on the words that it found after these calls, from ws on
 pub record Reports (ws : List ℕ) (c : Call) (earlier : List Call) : Type 0 where

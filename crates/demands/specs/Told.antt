@@ -18,7 +18,7 @@ use Rattle.buffers.specs.Format.{lentOf}
 use Rattle.lines.specs.Lines.{lineAfter, endedBy, endedWithin, leftBy, lastLine, ordersOf}
 use Rattle.sessions.specs.Runs.{asked}
 use Rattle.demands.specs.Histories.{Call, Sequence, since, links, packings}
-use Rattle.demands.specs.Asked.{Third}
+use Rattle.demands.specs.Asked.{Bounded}
 
 -- the call that a frame and its answer line tell: "answer, 2 digits (10 is 0A); word, 16; steps, 8"; of packings a line tells nothing
 unfoldable pub toldBy : ℕ → Order → List ℕ → Call
@@ -79,7 +79,7 @@ pub record MadeSoFar (ws : List ℕ) (earlier : List Call) : Type 0 where
 -- demand 3's bound of those told, with the packings that the calls made
 pub record Packed (ws : List ℕ) (earlier : List Call) : Type 0 where
   pub so-far : MadeSoFar ws earlier
-  pub third : Third (since earlier) (links earlier) (packings (since (so-far .calls)))
+  pub third : Bounded (since earlier) (links earlier) (packings (since (so-far .calls)))
 
 -- and its first half: the steps that a line tells are those of the rules, on the words that the calls so far left
 pub record Reported (ws : List ℕ) (c : Call) (earlier : List Call) : Type 0 where
