@@ -100,8 +100,8 @@ module _ (a b : Lent) (alike : Depends a b) where
         (λ holds. subst (λ (z : Queue). Answered q z (done q) (done z) (others q) (others z)) (alike .queues long (truth (sound (a .book)) holds)) (same-self (unless (firstFailing (others q)) q (done q))))
 
     -- a call that looks at the book right behind the array's checks
-    checked : Answered (queueOf a) (queueOf b) (done (queueOf a)) (done (queueOf b)) (arrayChecks a (After a)) (arrayChecks b (After b))
-    checked = array-same (done (queueOf a)) (done (queueOf b)) (After a) (After b) book-checked
+    book-first : Answered (queueOf a) (queueOf b) (done (queueOf a)) (done (queueOf b)) (arrayChecks a (After a)) (arrayChecks b (After b))
+    book-first = array-same (done (queueOf a)) (done (queueOf b)) (After a) (After b) book-checked
 
   -- a setup looks at the length alone
   setup-same : (links : ℕ) → Same (rules.setup links a) (rules.setup links b)
@@ -127,21 +127,21 @@ module _ (a b : Lent) (alike : Depends a b) where
 
   take-same : Same (rules.take a) (rules.take b)
   unfolding rules.take takeChecks
-  take-same = checked (λ q. (ltb 0 (held q) else NoneHeld) ∷ []) (λ q. doneWith (theEntry (taken q .out)) (taken q .steps) false (withBuffers q (taken q .buffers)))
+  take-same = book-first (λ q. (ltb 0 (held q) else NoneHeld) ∷ []) (λ q. doneWith (theEntry (taken q .out)) (taken q .steps) false (withBuffers q (taken q .buffers)))
 
   look-same : Same (rules.look a) (rules.look b)
   unfolding rules.look takeChecks
   look-same =
-      checked (λ q. (ltb 0 (held q) else NoneHeld) ∷ [])
+      book-first (λ q. (ltb 0 (held q) else NoneHeld) ∷ [])
       (λ q. doneWith (theEntry (taken q .out)) (taken q .steps) false (withBuffers q (ready (keyOf q) (treeOf (q .links)) (q .buffers) .buffers)))
 
   held-same : Same (rules.heldCall a) (rules.heldCall b)
   unfolding rules.heldCall
-  held-same = checked (λ q. []) (λ q. doneWith (held q) 0 false q)
+  held-same = book-first (λ q. []) (λ q. doneWith (held q) 0 false q)
 
   audit-same : Same (rules.audit a) (rules.audit b)
   unfolding rules.audit
-  audit-same = checked (λ q. (inOrder (keyOf q) (treeOf (q .links)) (q .buffers) else OrderBroken) ∷ []) (λ q. doneWith 0 0 false q)
+  audit-same = book-first (λ q. (inOrder (keyOf q) (treeOf (q .links)) (q .buffers) else OrderBroken) ∷ []) (λ q. doneWith 0 0 false q)
 
   pub call-same : (work : ℕ) (order : Order) → Same (call work order a) (call work order b)
   unfolding call
