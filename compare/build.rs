@@ -1,5 +1,5 @@
 //! Tells the linker where the library is: GORGALHUT_LIB_DIR is its directory and
-//! GORGALHUT_LIB_NAME its name without "lib" and ".a".
+//! GORGALHUT_LIB_NAME its name without "lib" and ".a"; that of joins lies beside it.
 
 use std::env::var;
 
@@ -16,21 +16,30 @@ fn feature(name: &str) -> bool {
     var(format!("CARGO_FEATURE_{name}")).is_ok()
 }
 
+/// Links a library, and again when it is built anew.
+fn link(directory: &str, name: &str) {
+    println!("cargo:rustc-link-lib=static={name}");
+    println!("cargo:rerun-if-changed={directory}/lib{name}.a");
+}
+
 fn main() {
     println!("cargo:rerun-if-env-changed=GORGALHUT_LIB_DIR");
     println!("cargo:rerun-if-env-changed=GORGALHUT_LIB_NAME");
     println!("cargo:rerun-if-changed=build.rs");
     // Calls bring takes with them.
-    let none = !["BOOK", "TAKES", "INSERT", "FRAMES"]
+    let queue = ["BOOK", "TAKES", "INSERT", "FRAMES"]
         .into_iter()
         .any(feature);
-    if none || feature("FAKE") {
+    let joins = feature("JOINS");
+    if feature("FAKE") || !(queue || joins) {
         return;
     }
     let directory = told("GORGALHUT_LIB_DIR");
-    let name = told("GORGALHUT_LIB_NAME");
     println!("cargo:rustc-link-search=native={directory}");
-    println!("cargo:rustc-link-lib=static={name}");
-    // A library built anew is linked anew.
-    println!("cargo:rerun-if-changed={directory}/lib{name}.a");
+    if queue {
+        link(&directory, &told("GORGALHUT_LIB_NAME"));
+    }
+    if joins {
+        link(&directory, "joins");
+    }
 }

@@ -35,7 +35,7 @@ const TAKES: [Call; 3] = [Call::Take, Call::Look, Call::Held];
 /// The calls of a group to be made on an array, each on a copy of its own.
 fn calls_on(group: Group, source: &mut Arrays, words: &[u64]) -> Vec<Call> {
     match group {
-        Group::Book | Group::Abuse | Group::Frames => Vec::new(),
+        Group::Book | Group::Abuse | Group::Frames | Group::Joins => Vec::new(),
         Group::Takes => TAKES.to_vec(),
         Group::Calls => {
             let setup = Call::Setup(source.some_setup(words.len()));

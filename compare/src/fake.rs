@@ -1,6 +1,8 @@
 //! A stand-in for the library, made of the reference, with faults to be chosen by
 //! the variable GORGALHUT_FAULT. It shows that the comparison sees them.
 
+mod joins;
+
 use crate::tally::name;
 use reference::array::built::{random_marks, random_starts};
 use reference::array::calls::{expected, Call, Expected};

@@ -1,5 +1,7 @@
 //! The library's functions by their C names, and one safe way to call each.
 
+pub mod joins;
+
 use crate::lent::Lent;
 use reference::array::calls::Call;
 

@@ -13,9 +13,11 @@ mod check;
 #[cfg(feature = "fake")]
 mod fake;
 mod frames;
+mod joins;
 mod lent;
 mod library;
 mod options;
+mod runs;
 mod sessions;
 mod show;
 mod tally;
@@ -34,6 +36,7 @@ fn built_in(group: Group) -> bool {
         Group::Insert => cfg!(feature = "insert"),
         Group::Abuse => built_in(Group::Calls) && built_in(Group::Insert),
         Group::Frames => cfg!(feature = "frames"),
+        Group::Joins => cfg!(feature = "joins"),
     }
 }
 
@@ -42,11 +45,12 @@ fn compare(options: &Options, tally: &mut Tally) -> Result<(), String> {
     match options.group {
         Group::Abuse => return abuse::compare(options, &mut memory, tally),
         Group::Frames => return frames::compare(options, tally),
+        Group::Joins => return joins::compare(options, tally),
         _ => {}
     }
     let mut source = arrays::compare(options, &mut memory, tally)?;
     match options.group {
-        Group::Book | Group::Abuse | Group::Frames => Ok(()),
+        Group::Book | Group::Abuse | Group::Frames | Group::Joins => Ok(()),
         Group::Takes | Group::Calls => sessions::emptying(options, &mut source, &mut memory, tally),
         Group::Insert if built_in(Group::Calls) => sessions::whole(options, &mut memory, tally),
         Group::Insert => {

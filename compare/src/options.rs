@@ -9,6 +9,7 @@ pub enum Group {
     Insert,
     Abuse,
     Frames,
+    Joins,
 }
 
 #[derive(Clone, Copy, Debug, PartialEq, Eq)]
@@ -20,7 +21,7 @@ pub struct Options {
     pub from: usize,
     /// Calls in sessions; as many as arrays if nothing is said.
     pub session_calls: usize,
-    /// Calls, or lines, of abuse and frames.
+    /// Calls, or lines, of abuse, frames and joins.
     pub calls: usize,
     pub trace: bool,
     /// Lends memory without canaries, for a tool that watches its bounds.
@@ -34,10 +35,11 @@ compare calls              these three, setup and audit
 compare insert             insert, and whole sessions if calls are built in
 compare abuse              all six calls, mixed, on arrays that stay as they were left
 compare frames             lines read and written, and the tally
+compare joins              two runs joined, and a part of them merged
   --arrays N               how many arrays (1000)
   --seed N                 the seed (1)
   --session-calls N        how many calls in sessions (as many as arrays)
-  --calls N                how many calls of abuse, or lines of frames (1000)
+  --calls N                how many calls of abuse, lines of frames or pairs of runs (1000)
   --from N                 compare from array number N on; those before are only made
   --exact                  lend memory without canaries, each time of just its length
   --trace                  tell every call on standard error before it is made
@@ -53,6 +55,7 @@ pub fn read_options(arguments: &[String]) -> Result<Options, String> {
         Some("insert") => Group::Insert,
         Some("abuse") => Group::Abuse,
         Some("frames") => Group::Frames,
+        Some("joins") => Group::Joins,
         _ => return Err(format!("what to compare is needed\n{HELP}")),
     };
     let mut options = Options {

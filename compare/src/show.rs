@@ -11,8 +11,8 @@ fn name(stretch: &Stretch) -> String {
     }
 }
 
-/// The first entries of a buffer.
-fn entries<'a>(list: impl ExactSizeIterator<Item = &'a u64>) -> String {
+/// The first entries of a buffer or a run.
+pub fn entries<'a>(list: impl ExactSizeIterator<Item = &'a u64>) -> String {
     let more = if list.len() > 24 { " .." } else { "" };
     let shown: Vec<String> = list.take(24).map(|entry| format!("{entry:x}")).collect();
     format!("[{}{more}]", shown.join(" "))

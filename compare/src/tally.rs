@@ -20,6 +20,16 @@ pub struct Tally {
     steps: u64,
     session_calls: usize,
     lines: usize,
+    /// Joins and parts.
+    joins: BTreeMap<&'static str, Joins>,
+}
+
+#[derive(Default)]
+struct Joins {
+    done: usize,
+    refused: usize,
+    /// Of those done, with the whole first or second run in one block.
+    blocks: [usize; 2],
 }
 
 /// A call's name in the document.
@@ -60,6 +70,32 @@ impl Tally {
     pub fn add_line(&mut self) {
         self.lines += 1;
     }
+
+    /// `block` is the number of the run that is laid as a whole, if one is.
+    pub fn add_join(&mut self, name: &'static str, done: bool, block: Option<usize>) {
+        let joins = self.joins.entry(name).or_default();
+        if !done {
+            joins.refused += 1;
+            return;
+        }
+        joins.done += 1;
+        block.into_iter().for_each(|run| joins.blocks[run] += 1);
+    }
+
+    fn write_joins(&self, out: &mut Formatter) -> fmt::Result {
+        let mut joins = self.joins.iter();
+        joins.try_for_each(|(name, joins)| writeln!(out, "{name}: {joins}"))
+    }
+}
+
+impl Display for Joins {
+    fn fmt(&self, out: &mut Formatter) -> fmt::Result {
+        let (done, refused, [first, second]) = (self.done, self.refused, self.blocks);
+        write!(
+            out,
+            "{done} done, of them with the whole first run in one block {first}, with the second {second}; {refused} refused"
+        )
+    }
 }
 
 impl Display for Tally {
@@ -70,6 +106,9 @@ impl Display for Tally {
                 "lines, orders, answers and tally calls {} each",
                 self.lines
             );
+        }
+        if !self.joins.is_empty() {
+            return self.write_joins(out);
         }
         let arrays: usize = self.links.values().sum();
         writeln!(out, "arrays {arrays}")?;

@@ -224,19 +224,43 @@ fn a_difference_is_found_again() {
     assert_eq!(output.status.code(), Some(0));
 }
 
+/// Runs a command that has calls instead of arrays; gives what it printed.
+fn called(group: &str, fault: &str, status: i32) -> String {
+    let output = compare(&[group, "--calls", "30000", "--seed", "3"], fault);
+    let text = text(&output);
+    assert_eq!(
+        output.status.code(),
+        Some(status),
+        "{group} {fault}: {text}"
+    );
+    text
+}
+
+/// The same with a fault that must be seen, and told in these words.
+fn seen_in_calls(group: &str, fault: &str, report: &str) {
+    let text = called(group, fault, 1);
+    assert!(text.contains("difference, seed 3, "), "{fault}: {text}");
+    assert!(text.contains(report), "{fault}: {text}");
+}
+
 #[test]
-fn abuse_and_frames() {
-    for (group, told) in [("abuse", "\ncalls 30000, "), ("frames", "\nlines, orders")] {
-        let arguments = [group, "--calls", "30000", "--seed", "3"];
-        let output = compare(&arguments, "");
-        let text = text(&output);
-        assert_eq!(output.status.code(), Some(0), "{text}");
+fn no_fault_no_difference_in_calls() {
+    for (group, told) in [
+        ("abuse", "\ncalls 30000, "),
+        ("frames", "\nlines, orders"),
+        ("joins", "\nparts: "),
+    ] {
+        let text = called(group, "", 0);
         assert!(text.contains(told), "{text}");
         assert!(text.ends_with("no difference\n"), "{text}");
+        // Without canaries there is nothing else that would differ.
+        let arguments = [group, "--calls", "5000", "--exact"];
+        assert_eq!(compare(&arguments, "").status.code(), Some(0));
     }
-    // Without canaries there is nothing else that would differ.
-    let arguments = ["abuse", "--calls", "5000", "--exact"];
-    assert_eq!(compare(&arguments, "").status.code(), Some(0));
+}
+
+#[test]
+fn abuse_and_frames() {
     for (group, fault, report) in [
         ("abuse", "before", "written 1 words before the array"),
         ("abuse", "behind", "written 1 words behind the array"),
@@ -261,12 +285,31 @@ fn abuse_and_frames() {
         ("frames", "line-ended", "expected ["),
         ("frames", "tally-wraps", "tally "),
     ] {
-        let arguments = [group, "--calls", "30000", "--seed", "3"];
-        let output = compare(&arguments, fault);
-        let text = text(&output);
-        assert_eq!(output.status.code(), Some(1), "{group} {fault}: {text}");
-        assert!(text.contains("difference, seed 3, "), "{fault}: {text}");
-        assert!(text.contains(report), "{fault}: {text}");
+        seen_in_calls(group, fault, report);
+    }
+}
+
+#[test]
+fn joins_and_parts() {
+    for (fault, report) in [
+        ("join-block-by-last", "join, "),
+        ("part-block-by-last", "part, "),
+        ("join-second-at-equal", "join, "),
+        ("part-second-at-equal", "part, "),
+        ("join-rest-of-the-other", " of rest: expected"),
+        ("join-rest-cut", "word 0 of rest: expected"),
+        ("join-rest-behind", " of rest: expected"),
+        ("join-laid-behind", " of out: expected"),
+        ("join-out-behind", "written 1 words behind out"),
+        ("part-out-behind", "written 1 words behind out"),
+        ("join-refusal-writes", "word 0 of out: expected"),
+        ("part-refusal-writes", "word 0 of out: expected"),
+        ("join-writes-run", "word 0 of first run: expected"),
+        ("part-writes-run", "word 0 of first run: expected"),
+        ("part-stops", " of out: expected"),
+        ("part-first-off-by-one", "expected JoinGot"),
+    ] {
+        seen_in_calls("joins", fault, report);
     }
 }
 

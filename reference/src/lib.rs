@@ -7,6 +7,7 @@
 pub mod array;
 pub mod frames;
 pub mod generate;
+pub mod joining;
 pub mod links;
 pub mod machine;
 pub mod movement;

@@ -1,6 +1,7 @@
 //! The rules of movement. All run on a queue whose book is sound; each gives the
 //! merge steps it made: "Joins and layings are no merge steps."
 
+use crate::joining::{self, smaller_head};
 use crate::links::{link, most_held, INSERTION_SLOTS};
 use crate::queue::{a, inputs, Buffer, Place, Queue};
 
@@ -37,17 +38,13 @@ pub fn fill(
     steps
 }
 
-/// "One merge step moves the smaller head; at equal heads the first input's."
-/// False if both inputs are empty.
+/// One merge step, by `smaller_head`. False if both inputs are empty.
 fn merge_step(queue: &mut Queue, inputs: [Option<Place>; 2], output: Place) -> bool {
     let heads = inputs.map(|input| input.and_then(|place| queue.buffer(place).front().copied()));
-    let chosen = match heads {
-        [None, None] => return false,
-        [Some(first), Some(second)] if second < first => inputs[1],
-        [Some(_), _] => inputs[0],
-        [None, Some(_)] => inputs[1],
+    let Some(chosen) = smaller_head(heads) else {
+        return false;
     };
-    let input = chosen.expect("an input with a head is there");
+    let input = inputs[chosen].expect("an input with a head is there");
     let entry = queue.buffer_mut(input).pop_front();
     queue.buffer_mut(output).extend(entry);
     true
@@ -214,20 +211,10 @@ pub fn sweep(queue: &mut Queue, i: usize) -> u64 {
 }
 
 /// "Join this run with the run read along the path [..]; at equal heads the
-/// path's first."
+/// path's first." The rest stands behind what is laid.
 fn join(mut path_run: Buffer, mut taken_run: Buffer) -> Buffer {
-    let mut joined = Buffer::new();
-    while let (Some(from_path), Some(taken)) = (path_run.front(), taken_run.front()) {
-        let next = if taken < from_path {
-            taken_run.pop_front()
-        } else {
-            path_run.pop_front()
-        };
-        joined.extend(next);
-    }
-    joined.append(&mut path_run);
-    joined.append(&mut taken_run);
-    joined
+    let joined = joining::join(path_run.make_contiguous(), taken_run.make_contiguous());
+    [&joined.laid, joined.rest].concat().into()
 }
 
 /// "Pack: take everything out by repeated takes, then lay it in order into

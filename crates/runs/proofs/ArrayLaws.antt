@@ -13,26 +13,12 @@ use Rattle.rules.specs.Merge.{merged}
 use Rattle.runs.specs.Until.{untilEmpty}
 use Rattle.runs.specs.Promises.{laidAt, stretch, Apart, Stretches, Merges, Moves}
 use Rattle.runs.proofs.LayingLaws.{out-long, laid-none, laid-more, laid-outside, length-stretch, stretch-at, apart-at}
-use Rattle.runs.proofs.RunningLaws.{Running, running-start, run-first, run-second, ended-first, ended-second, ended-room}
+use Rattle.runs.proofs.RunningLaws.{Running, merges, running-start, run-first, run-second, ended-first, ended-second, ended-room}
 
 in-second : (k out i one j two : ℕ) → out ≤ k → one ≤ i → two ≤ j → k + (one + two) ≡ out + (i + j) → k - out - (i - one) ≡ j - two
 in-second k out i one j two hk hi hj e = omega arith
 
 module _ (key : ℕ → ℕ) where
-  pub merges : {xs ys a₀ a : List ℕ} {at room t i : ℕ} → Running key xs ys a₀ a at room t i → t ≡ untilEmpty key room xs ys → Merges key xs ys a₀ a at room t i
-  merges r e =
-      let l = r .laying in
-      record {
-        steps = e;
-        laid = l .laid;
-        one = sym (l .one);
-        two = sym (l .two);
-        of-first = l .of-first;
-        of-both = l .of-both;
-        of-second = l .of-second;
-        within = r .within;
-      }
-
   -- a word of an input, read while the output is laid
   pub input-kept : {xs ys a₀ a : List ℕ} {out room t i : ℕ} → Running key xs ys a₀ a out room t i → (from end : ℕ) → Apart from end out (out + room)
       → (p : ℕ) → from ≤ p → p < end → getD a p 0 ≡ getD a₀ p 0
@@ -102,7 +88,7 @@ module _ (key : ℕ → ℕ) where
     two-kept = input-kept (p .run) two two-end (p .asked .two-apart)
 
     finished : k - out ≡ untilEmpty key room (stretch one one-end a₀) (stretch two two-end a₀) → Finished a₀ a out one one-end two two-end room k i
-    finished e = record { k-low = p .k-low; i-low = p .i-low; sized = p .run .laying .sized; merges = merges (p .run) e }
+    finished e = record { k-low = p .k-low; i-low = p .i-low; sized = p .run .laying .sized; merges = merges key (p .run) e }
 
     pub one-ends : i ≡ one-end → Finished a₀ a out one one-end two two-end room k i
     one-ends e = finished (ended-first key (p .run) (omega (arith, one-long)))
@@ -183,10 +169,10 @@ module _ (key : ℕ → ℕ) where
     start = running-start key (stretch one one-end a) (stretch two two-end a) a out room (omega (arith, s .free))
 
     pub one-empty : one ≡ one-end → Merges key (stretch one one-end a) (stretch two two-end a) a a out room 0 0
-    one-empty e = merges start (ended-first key start (omega (arith, length-stretch a one one-end (s .one-inside))))
+    one-empty e = merges key start (ended-first key start (omega (arith, length-stretch a one one-end (s .one-inside))))
 
     pub two-empty : two ≡ two-end → Merges key (stretch one one-end a) (stretch two two-end a) a a out room 0 0
-    two-empty e = merges start (ended-second key start (omega (arith, length-stretch a two two-end (s .two-inside))))
+    two-empty e = merges key start (ended-second key start (omega (arith, length-stretch a two two-end (s .two-inside))))
 
 -- ---- entries of one stretch move
 

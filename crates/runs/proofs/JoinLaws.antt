@@ -38,7 +38,7 @@ module _ (key : ℕ → ℕ) where
   rest-joined one (y ∷ ys) (inr e) = absurd (let z : _≡_ {A = ℕ} (suc (length ys)) 0 = ap length e in omega arith)
 
   -- where the steps end before all is moved, an input is empty
-  one-ended : (xs ys : List ℕ) → (merged key (untilEnd key xs ys) xs ys .one ≡ []) ⊎ (merged key (untilEnd key xs ys) xs ys .two ≡ [])
+  pub one-ended : (xs ys : List ℕ) → (merged key (untilEnd key xs ys) xs ys .one ≡ []) ⊎ (merged key (untilEnd key xs ys) xs ys .two ≡ [])
   one-ended xs ys = go (until-ends key (length xs + length ys) xs ys)
     where
       t : ℕ

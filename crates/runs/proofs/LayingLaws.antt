@@ -14,7 +14,7 @@ use lib.Seq.{drop-cons, set-at, append-snoc, take-at, drop-at, take-append-seam,
 use Rattle.rules.specs.Merge.{merged}
 use Rattle.runs.specs.Until.{movesFirst}
 use Rattle.runs.specs.Promises.{laidAt, stretch, Apart, Parts}
-use Rattle.runs.proofs.MergeLaws.{moves-first, moves-second, merged-more, length-out}
+use Rattle.runs.proofs.MergeLaws.{reached, moves-first, moves-second, merged-more, merged-split, length-out}
 
 -- ---- a run laid at a place
 
@@ -125,6 +125,10 @@ stretch-drop a from end n =
     let many : end - from - n ≡ end - (from + n) = omega arith in
     drop-take n (end - from) (drop from a) ∙ ap (λ k. take k (drop n (drop from a))) many ∙ ap (take (end - (from + n))) (drop-drop n from a)
 
+-- what is lent from a place to the end
+pub to-the-end : (xs : List ℕ) (i : ℕ) → take (length xs - i) (drop i xs) ≡ drop i xs
+to-the-end xs i = take-all (length xs - i) (drop i xs) (simp length-drop (omega arith))
+
 -- ---- a copy
 
 -- i words of a run are copied
@@ -232,36 +236,30 @@ module _ (key : ℕ → ℕ) where
           laid = step-laid k v ek hk (ap (λ z. z .out) m);
         }
 
-  -- ---- which head is next
-
-  -- the first run has an entry where its head is next
-  pub first-has : (xs ys : List ℕ) (i : ℕ) → movesFirst key (drop i xs) ys ≡ true → i < length xs
-  unfolding movesFirst
-  first-has xs ys i t = go (decLt i (length xs))
-    where
-      go : Dec (i < length xs) → i < length xs
-      go (yes h) = h
-      go (no h) = absurd (let past : length xs ≤ i = omega arith in let e : movesFirst key [] ys ≡ true = rw (drop-of-length-le xs past) at t in let z : _≡_ {A = ℕ} 0 1 = cc in omega arith)
-
-  pub none-first : (xs ys : List ℕ) (i : ℕ) → length xs ≤ i → false ≡ movesFirst key (drop i xs) ys
-  unfolding movesFirst
-  none-first xs ys i h = rw (drop-of-length-le xs h)
-
-  pub only-first : (xs ys : List ℕ) (i j : ℕ) → i < length xs → length ys ≤ j → true ≡ movesFirst key (drop i xs) (drop j ys)
-  unfolding movesFirst
-  only-first xs ys i j h g = rw (drop-cons xs i 0 h, drop-of-length-le ys g)
+    -- so many merge steps more are laid as one block
+    pub lay-block : (n i′ : ℕ) (block : List ℕ) → merged key n (drop i xs) (drop (t - i) ys) ≡ reached block (drop i′ xs) (drop (t + n - i′) ys)
+        → i′ ≤ length xs → i′ ≤ t + n → t + n - i′ ≤ length ys → at + (t + n) ≤ length a₀ → Laying xs ys a₀ (laidAt a (at + t) block) at (t + n) i′
+    lay-block n i′ block e of-first of-both of-second inside =
+        let many : length block ≡ n =
+        ap (λ z. length (z .out)) (sym e) ∙ length-out key n (drop i xs) (drop (t - i) ys) (simp length-drop (omega (arith, l .of-first, l .of-both, l .of-second))) in
+        let whole : merged key (t + n) xs ys ≡ reached (merged key t xs ys .out ++ block) (drop i′ xs) (drop (t + n - i′) ys) = merged-split key t n xs ys ∙ rw (l .one, l .two, e) in
+        record {
+          of-first = of-first;
+          of-both = of-both;
+          of-second = of-second;
+          inside = inside;
+          sized = length-laid a (at + t) block (omega (arith, many, l .sized)) ∙ l .sized;
+          one = ap (λ z. z .one) whole;
+          two = ap (λ z. z .two) whole;
+          laid =
+              ap (λ b. laidAt b (at + t) block) (l .laid)
+              ∙ laid-on a₀ at (merged key t xs ys .out) block (at + t) (omega (arith, out-long)) (omega (arith, l .inside))
+              ∙ ap (laidAt a₀ at) (sym (ap (λ z. z .out) whole));
+        }
 
   pub both-heads : (xs ys : List ℕ) (i j : ℕ) → i < length xs → j < length ys → leb (key (getD xs i 0)) (key (getD ys j 0)) ≡ movesFirst key (drop i xs) (drop j ys)
   unfolding movesFirst
   both-heads xs ys i j h g = rw (drop-cons xs i 0 h, drop-cons ys j 0 g)
-
-  -- the second run has an entry where the first's head is not next and there is one
-  pub second-has : (xs ys : List ℕ) (i j : ℕ) → i ≤ length xs → j ≤ length ys → i + j < length xs + length ys → movesFirst key (drop i xs) (drop j ys) ≡ false → j < length ys
-  second-has xs ys i j hi hj more t = go (decLt j (length ys))
-    where
-      go : Dec (j < length ys) → j < length ys
-      go (yes h) = h
-      go (no h) = absurd (let e : _≡_ {A = Bool} true false = only-first xs ys i j (omega arith) (omega arith) ∙ t in let z : _≡_ {A = ℕ} 0 1 = cc in omega arith)
 
   -- out is full
   pub parts : (xs ys out₀ out : List ℕ) (t i : ℕ) → Laying xs ys out₀ out 0 t i → length out₀ ≤ t → Parts key xs ys out₀ out i

@@ -1,6 +1,9 @@
 pub mod MergeLaws
 pub mod JoinLaws
+pub mod LeadLaws
 pub mod LayingLaws
 pub mod RunningLaws
+pub mod LentLaws
 pub mod ArrayLaws
 pub mod PromiseLaws
+pub mod EndLaws

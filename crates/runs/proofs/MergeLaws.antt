@@ -5,7 +5,7 @@ use mathlib.Core.List.{List, [], _∷_, _++_}
 use mathlib.Core.Logic.{_⊎_, inl, inr}
 use Prim.Native.Nat.{ℕ, zero, suc, _+_, _-_, _≤_, _<_}
 use native.Mathlib.Omega.{arith}
-use native.Mathlib.Nat.{zero-add, suc-add}
+use native.Mathlib.Nat.{zero-add, suc-add, sub-zero}
 use lib.Dec.{leb}
 use lib.ListN.{length, take, drop}
 use Rattle.rules.specs.Merge.{Step, stop, move, Merged, mergeStep, merged}
@@ -23,6 +23,11 @@ behind before m = reached (before ++ m .out) (m .one) (m .two)
 abbrev pub andThen : Step → (List ℕ → List ℕ → Merged) → Merged
 andThen stop rest = reached [] [] []
 andThen (move e xs ys) rest = behind (e ∷ []) (rest xs ys)
+
+-- a test holds or fails
+pub by-test : {P : Type 0} (t : Bool) → (t ≡ true → P) → (t ≡ false → P) → P
+by-test true holds fails = holds refl
+by-test false holds fails = fails refl
 
 -- of so many entries a step moves one, if there is one
 abbrev OneLess : ℕ → Step → Type 0
@@ -150,6 +155,22 @@ module _ (key : ℕ → ℕ) where
   unfolding untilEmpty
   until-second room x y xs ys t = rw (t, untilEmpty)
 
+  split-step : (m room e : ℕ) (xs ys xs′ ys′ : List ℕ) → mergeStep key xs ys ≡ move e xs′ ys′ → untilEmpty key (suc room) xs ys ≡ suc (untilEmpty key room xs′ ys′)
+      → suc m ≤ untilEmpty key (suc room) xs ys → (m ≤ untilEmpty key room xs′ ys′ → untilEmpty key room xs′ ys′ ≡ m + untilEmpty key (room - m) (merged key m xs′ ys′ .one) (merged key m xs′ ys′ .two))
+      → untilEmpty key (suc room) xs ys ≡ suc m + untilEmpty key (suc room - suc m) (merged key (suc m) xs ys .one) (merged key (suc m) xs ys .two)
+  split-step m room e xs ys xs′ ys′ s u h law =
+      let less : suc room - suc m ≡ room - m = omega arith in
+      rw (less, merged-suc m xs ys, s) (omega (arith, u, law (omega (arith, u))))
+
+  no-steps : (room : ℕ) (xs ys : List ℕ) → length xs ≤ 0 → untilEmpty key room xs ys ≡ 0
+  no-steps room [] ys h = until-no-first room ys
+  no-steps room (x ∷ xs) ys h = absurd (omega arith)
+
+  enough-step : (room n : ℕ) (xs ys xs′ ys′ : List ℕ) → suc n ≤ room → ((less : ℕ) → untilEmpty key (suc less) xs ys ≡ suc (untilEmpty key less xs′ ys′))
+      → ((less : ℕ) → n ≤ less → untilEmpty key less xs′ ys′ ≡ n) → untilEmpty key room xs ys ≡ suc n
+  enough-step zero n xs ys xs′ ys′ h u law = absurd (omega arith)
+  enough-step (suc less) n xs ys xs′ ys′ h u law = u less ∙ ap suc (law less (omega arith))
+
   -- what holds where the steps end, and is kept by a step, holds of all of them
   pub by-until : (P : ℕ → List ℕ → List ℕ → ℕ → Type 0)
       → ((xs ys : List ℕ) → P 0 xs ys 0)
@@ -187,6 +208,29 @@ module _ (key : ℕ → ℕ) where
       by-until (λ room xs ys n. 0 < room → 0 < length xs → 0 < length ys → 0 < n)
       (λ xs ys r a b. r) (λ room ys r a b. a) (λ room xs r a b. b)
       (λ room x y n xs ys e h r a b. omega arith) (λ room x y n xs ys e h r a b. omega arith)
+
+  -- the steps that are left after some of them
+  pub until-split : (m room : ℕ) (xs ys : List ℕ) → m ≤ untilEmpty key room xs ys
+      → untilEmpty key room xs ys ≡ m + untilEmpty key (room - m) (merged key m xs ys .one) (merged key m xs ys .two)
+  unfolding merged movesFirst
+  until-split zero room xs ys h = rw (zero-add, sub-zero)
+  until-split (suc m) zero xs ys h = absurd (omega (arith, until-no-room xs ys))
+  until-split (suc m) (suc room) [] ys h = absurd (omega (arith, until-no-first (suc room) ys))
+  until-split (suc m) (suc room) (x ∷ xs) [] h = absurd (omega (arith, until-no-second (suc room) (x ∷ xs)))
+  until-split (suc m) (suc room) (x ∷ xs) (y ∷ ys) h =
+      by-test (leb (key x) (key y))
+      (λ t. split-step m room x (x ∷ xs) (y ∷ ys) xs (y ∷ ys) (moves-first x xs (y ∷ ys) t) (until-first room x y xs ys t) h (until-split m room xs (y ∷ ys)))
+      (λ t. split-step m room y (x ∷ xs) (y ∷ ys) (x ∷ xs) ys (moves-second y (x ∷ xs) ys t) (until-second room x y xs ys t) h (until-split m room (x ∷ xs) ys))
+
+  -- where the room is never used up, more of it makes no step more
+  pub until-enough : (all : ℕ) (xs ys : List ℕ) → length xs + length ys ≤ all → (room : ℕ) → untilEmpty key all xs ys ≤ room → untilEmpty key room xs ys ≡ untilEmpty key all xs ys
+  until-enough =
+      by-until (λ all xs ys n. length xs + length ys ≤ all → (room : ℕ) → n ≤ room → untilEmpty key room xs ys ≡ n)
+      (λ xs ys few room h. no-steps room xs ys (omega arith))
+      (λ all ys few room h. until-no-first room ys)
+      (λ all xs few room h. until-no-second room xs)
+      (λ all x y n xs ys t law few room h. enough-step room n (x ∷ xs) (y ∷ ys) xs (y ∷ ys) h (λ less. until-first less x y xs ys t) (law (omega arith)))
+      (λ all x y n xs ys t law few room h. enough-step room n (x ∷ xs) (y ∷ ys) (x ∷ xs) ys h (λ less. until-second less x y xs ys t) (law (omega arith)))
 
   -- afterwards an input is empty, or the room is used up
   abbrev Ended : ℕ → List ℕ → List ℕ → ℕ → Type 0

@@ -1,28 +1,19 @@
 -- Laws of merging that goes on until an input is empty.
-use mathlib.Core.Path.{_≡_, refl, sym, ap, _∙_}
+use mathlib.Core.Path.{_≡_, sym, _∙_}
 use mathlib.Core.Bool.{true, false}
-use mathlib.Core.List.{List, []}
-use Prim.Native.Nat.{ℕ, suc, _+_, _-_, _*_, _≤_, _<_}
+use mathlib.Core.List.{List}
+use Prim.Native.Nat.{ℕ, suc, _+_, _-_, _≤_, _<_}
 use native.Mathlib.Omega.{arith}
 use native.Mathlib.Numerals.{add-one}
 use native.Mathlib.Nat.{zero-add, sub-zero}
 use lib.Dec.{leb}
-use lib.ListN.{length, take, drop, getD, set, length-drop, drop-of-length-le}
-use lib.Seq.{drop-cons, take-all}
-use denote.Ref.{RefT}
+use lib.ListN.{length, drop, getD, set, length-drop, drop-of-length-le}
+use lib.Seq.{drop-cons, drop-drop}
 use Rattle.rules.specs.Merge.{merged}
-use Rattle.runs.specs.Until.{Which, the-first, the-second, pick, outlasts, untilEmpty, untilEnd, joinUntilEnd}
-use Rattle.runs.specs.Promises.{EndOf, Joins}
-use Rattle.runs.proofs.MergeLaws.{until-first, until-second, until-some, until-no-room, until-no-first, until-no-second}
-use Rattle.runs.proofs.LayingLaws.{Laying, laying-start, lay-first, lay-second, both-heads, out-long}
-
-to-the-end : (xs : List ℕ) (i : ℕ) → take (length xs - i) (drop i xs) ≡ drop i xs
-to-the-end xs i = take-all (length xs - i) (drop i xs) (simp length-drop (omega arith))
-
-end-of : (part run : RefT (List ℕ)) (i : ℕ) → i ≤ length (run .now) → part .ptr ≡ (run .ptr .0, i * 8 + run .ptr .1) → part .now ≡ drop i (run .now) → EndOf part run
-end-of part run i h at e =
-    let back : length (run .now) - length (part .now) ≡ i = rw (e, length-drop) (omega arith) in
-    record { starts = rw back at; words = rw back e }
+use Rattle.runs.specs.Until.{untilEmpty}
+use Rattle.runs.specs.Promises.{laidAt, Merges}
+use Rattle.runs.proofs.MergeLaws.{reached, until-first, until-second, until-some, until-no-room, until-no-first, until-no-second, until-within, until-split}
+use Rattle.runs.proofs.LayingLaws.{Laying, laying-start, lay-first, lay-second, lay-block, both-heads}
 
 module _ (key : ℕ → ℕ) where
   -- t merge steps of those that the room allows are laid, i entries of them are the first input's
@@ -81,43 +72,33 @@ module _ (key : ℕ → ℕ) where
         let none : untilEmpty key (room - t) (drop i xs) (drop (t - i) ys) ≡ 0 = rw full (until-no-room key (drop i xs) (drop (t - i) ys)) in
         omega (arith, r .count)
 
-  -- ---- a joining has ended
+  pub merges : {xs ys a₀ a : List ℕ} {at room t i : ℕ} → Running xs ys a₀ a at room t i → t ≡ untilEmpty key room xs ys → Merges key xs ys a₀ a at room t i
+  merges r e =
+      let l = r .laying in
+      record {
+        steps = e;
+        laid = l .laid;
+        one = sym (l .one);
+        two = sym (l .two);
+        of-first = l .of-first;
+        of-both = l .of-both;
+        of-second = l .of-second;
+        within = r .within;
+      }
 
-  joined : {xs ys out₀ out : List ℕ} {t i : ℕ} → Running xs ys out₀ out 0 (length xs + length ys) t i → (run : Which) (rest : List ℕ) → t ≡ untilEnd key xs ys
-      → outlasts (merged key t xs ys .two) ≡ run → pick run (drop i xs) (drop (t - i) ys) ≡ rest
-      → joinUntilEnd key xs ys ≡ record { laid = merged key t xs ys .out; run = run; rest = rest }
-  unfolding joinUntilEnd
-  joined r run rest u o p = rw (← u, o, r .laying .one, r .laying .two, p)
-
-  module _ {xs ys : RefT (List ℕ)} {out₀ out : List ℕ} {t i : ℕ} (r : Running (xs .now) (ys .now) out₀ out 0 (length (xs .now) + length (ys .now)) t i) where
-    -- the second run has ended
-    pub joins-first : length (ys .now) ≤ t - i → (rest : RefT (List ℕ)) → rest .ptr ≡ (xs .ptr .0, i * 8 + xs .ptr .1) → rest .now ≡ take (length (xs .now) - i) (drop i (xs .now))
-        → Joins key xs ys out₀ out rest
-    unfolding pick outlasts
-    joins-first h rest at e =
-        let l = r .laying in
-        let none : merged key t (xs .now) (ys .now) .two ≡ [] = l .two ∙ drop-of-length-le (ys .now) h in
-        let j = joined r the-first (drop i (xs .now)) (ended-second r h) (ap outlasts none) refl in
-        let is : rest .now ≡ drop i (xs .now) = e ∙ to-the-end (xs .now) i in
-        record {
-          laid = rw j (l .laid);
-          handed = rw j is;
-          suffix = rw j (end-of rest xs i (l .of-first) at is);
-          all = rw (j, out-long key l, is, length-drop) (omega arith);
-        }
-
-    -- the first run has ended
-    pub joins-second : length (xs .now) ≤ i → t - i < length (ys .now) → (rest : RefT (List ℕ)) → rest .ptr ≡ (ys .ptr .0, (t - i) * 8 + ys .ptr .1)
-        → rest .now ≡ take (length (ys .now) - (t - i)) (drop (t - i) (ys .now)) → Joins key xs ys out₀ out rest
-    unfolding pick outlasts
-    joins-second h more rest at e =
-        let l = r .laying in
-        let some : outlasts (merged key t (xs .now) (ys .now) .two) ≡ the-second = rw (l .two, drop-cons (ys .now) (t - i) 0 more) in
-        let j = joined r the-second (drop (t - i) (ys .now)) (ended-first r h) some refl in
-        let is : rest .now ≡ drop (t - i) (ys .now) = e ∙ to-the-end (ys .now) (t - i) in
-        record {
-          laid = rw j (l .laid);
-          handed = rw j is;
-          suffix = rw j (end-of rest ys (t - i) (l .of-second) at is);
-          all = rw (j, out-long key l, is, length-drop) (omega arith);
-        }
+  -- n steps more are laid as one block: p entries of the first input and q of the second
+  pub run-block : {xs ys a₀ a : List ℕ} {at room : ℕ} (i j : ℕ) → Running xs ys a₀ a at room (i + j) i → (n p q k t′ i′ : ℕ) (block : List ℕ)
+      → n ≡ p + q → k ≡ at + (i + j) → t′ ≡ i + j + n → i′ ≡ i + p
+      → merged key n (drop i xs) (drop j ys) ≡ reached block (drop p (drop i xs)) (drop q (drop j ys)) → n ≤ untilEmpty key (room - (i + j)) (drop i xs) (drop j ys)
+      → i + p ≤ length xs → j + q ≤ length ys → at + room ≤ length a₀ → Running xs ys a₀ (laidAt a k block) at room t′ i′
+  run-block {xs} {ys} {a₀} {a} {at} {room} i j r n p q k t′ i′ block en ek et ei e made hp hq free =
+      let back : i + j - i ≡ j = omega arith in
+      let on : i + j + n - (i + p) ≡ j + q = omega arith in
+      let less : room - (i + j) - n ≡ room - (i + j + n) = omega arith in
+      let fits : i + j + n ≤ room = omega (arith, made, until-within key (room - (i + j)) (drop i xs) (drop j ys), r .within) in
+      let e′ : merged key n (drop i xs) (drop (i + j - i) ys) ≡ reached block (drop (i + p) xs) (drop (i + j + n - (i + p)) ys) = rw (back, on, ← drop-drop p i xs, ← drop-drop q j ys) e in
+      let left : untilEmpty key (room - (i + j)) (drop i xs) (drop j ys) ≡ n + untilEmpty key (room - (i + j + n)) (drop (i + p) xs) (drop (i + j + n - (i + p)) ys) =
+      until-split key n (room - (i + j)) (drop i xs) (drop j ys) made ∙ rw (e, less, on, drop-drop p i xs, drop-drop q j ys) in
+      let was : i + j + untilEmpty key (room - (i + j)) (drop i xs) (drop j ys) ≡ untilEmpty key room xs ys = rw back at (r .count) in
+      let l = lay-block key (r .laying) n (i + p) block e′ hp (omega arith) (omega arith) (omega arith) in
+      rw (ek, et, ei) record { laying = l; within = fits; count = omega (arith, left, was) }

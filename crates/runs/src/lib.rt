@@ -1,10 +1,11 @@
 // Runs: merging, joining and laying of words that are lent. For any words, sorted or not.
 ghost use mathlib.Core.Path.{_≡_};
-ghost use Prim.Native.Nat.{_+_, _≤_};
+ghost use Prim.Native.Nat.{_+_, _≤_, _<_, min};
 ghost use lib.Dec.{leb};
-ghost use lib.ListN.{length, drop};
+ghost use lib.ListN.{length};
 ghost use Rattle.rules.specs.Entries.{wholeWord};
-ghost use Rattle.runs.specs.Until.{movesFirst, untilEnd};
+ghost use Rattle.runs.specs.Until.{untilEnd};
+ghost use Rattle.runs.specs.Leads.{goesBefore, leading};
 ghost use Rattle.runs.specs.Promises.{laidAt, stretch, Heads, Joins, Merges, Moves, Parts, Stretches};
 
 // Whether x moves before y where x is the first input's: the one place that knows the order.
@@ -12,68 +13,6 @@ pub fn goes_first(x: u64, y: u64) -> bool
     ensures { λ r. ⌜ r ≡ leb (wholeWord x) (wholeWord y) ⌝ }
 {
     x <= y
-}
-
-// Whether the next merge step moves the first run's head.
-fn moves_first(xs: &[u64], i: usize, ys: &[u64], j: usize) -> bool
-    ensures { λ r. ⌜ r ≡ movesFirst wholeWord (drop i (now (xs .entry))) (drop j (now (ys .entry))) ⌝ }
-{
-    if xs.len() <= i {
-        return false;
-    }
-    if ys.len() <= j {
-        return true;
-    }
-    goes_first(xs[i], ys[j])
-}
-
-// Merges as many entries as out has room for, and says how many are the first run's.
-pub fn part(xs: &[u64], ys: &[u64], out: &mut [u64]) -> usize
-    requires { ⌜ length (now out) ≤ length (now xs) + length (now ys) ⌝ }
-    ensures { λ r. ⌜ Parts wholeWord (now (xs .entry)) (now (ys .entry)) (now (out .entry)) (now (out .exit)) r ⌝ }
-{
-    let mut i: usize = 0;
-    let mut t: usize = 0;
-    while t < out.len() {
-        let j = t - i;
-        if moves_first(xs, i, ys, j) {
-            out[t] = xs[i];
-            i += 1;
-        } else {
-            out[t] = ys[j];
-        }
-        t += 1;
-    }
-    i
-}
-
-// Merges until one run ends, and hands back the unread rest of the run that outlasts the other, or the empty end of the first if both end together.
-pub fn join<'a>(xs: &'a [u64], ys: &'a [u64], out: &mut [u64]) -> &'a [u64]
-    requires { ⌜ untilEnd wholeWord (now xs) (now ys) ≤ length (now out) ⌝ }
-    ensures { λ r. ⌜ Joins wholeWord (xs .entry) (ys .entry) (now (out .entry)) (now (out .exit)) r ⌝ }
-{
-    let mut i: usize = 0;
-    let mut t: usize = 0;
-    while i < xs.len() {
-        let j = t - i;
-        if ys.len() <= j {
-            return &xs[i..];
-        }
-        let x = xs[i];
-        let y = ys[j];
-        if goes_first(x, y) {
-            out[t] = x;
-            i += 1;
-        } else {
-            out[t] = y;
-        }
-        t += 1;
-    }
-    let j = t - i;
-    if j < ys.len() {
-        return &ys[j..];
-    }
-    &xs[i..]
 }
 
 // Copies a run to the beginning of a lent part.
@@ -108,6 +47,133 @@ impl Run {
     {
         Self { moved, first }
     }
+}
+
+// Whether an entry goes before the other run's head. At equality the first run's does.
+fn goes_before(first: bool, e: u64, head: u64) -> bool
+    ensures { λ r. ⌜ r ≡ goesBefore wholeWord first e head ⌝ }
+{
+    if first {
+        return goes_first(e, head);
+    }
+    !goes_first(head, e)
+}
+
+// How many entries at a run's front go before the other run's head: the look stops at the first that does not.
+fn lead(run: &[u64], head: u64, first: bool) -> usize
+    ensures { λ r. ⌜ r ≡ leading wholeWord first head (now (run .entry)) ⌝ }
+{
+    let mut n: usize = 0;
+    while n < run.len() {
+        if !goes_before(first, run[n], head) {
+            break;
+        }
+        n += 1;
+    }
+    n
+}
+
+fn shorter(x: usize, y: usize) -> usize
+    ensures { λ r. ⌜ r ≡ min x y ⌝ }
+{
+    if x < y { x } else { y }
+}
+
+// Merge steps of two lent runs that have entries, until one ends or out is full. The heads stay in locals.
+fn merge_on(xs: &[u64], ys: &[u64], out: &mut [u64]) -> Run
+    requires { ⌜ (0 < length (now xs)) × (0 < length (now ys)) ⌝ }
+    ensures { λ r. ⌜ Merges wholeWord (now (xs .entry)) (now (ys .entry)) (now (out .entry)) (now (out .exit)) 0 (length (now (out .entry))) (r .moved) (r .first) ⌝ }
+{
+    let mut i: usize = 0;
+    let mut j: usize = 0;
+    let mut x = xs[0];
+    let mut y = ys[0];
+    while i + j < out.len() {
+        if goes_first(x, y) {
+            out[i + j] = x;
+            i += 1;
+            if i == xs.len() {
+                break;
+            }
+            x = xs[i];
+        } else {
+            out[i + j] = y;
+            j += 1;
+            if j == ys.len() {
+                break;
+            }
+            y = ys[j];
+        }
+    }
+    Run::of(i + j, i)
+}
+
+// Merge steps of two lent runs, until one ends or out is full. What goes before the other run's head is laid as one block: the first run's, then the second's.
+fn merge_until(xs: &[u64], ys: &[u64], out: &mut [u64]) -> Run
+    ensures { λ r. ⌜ Merges wholeWord (now (xs .entry)) (now (ys .entry)) (now (out .entry)) (now (out .exit)) 0 (length (now (out .entry))) (r .moved) (r .first) ⌝ }
+{
+    if xs.len() == 0 {
+        return Run::of(0, 0);
+    }
+    if ys.len() == 0 {
+        return Run::of(0, 0);
+    }
+    let n = shorter(xs.len(), out.len());
+    let i = lead(&xs[..n], ys[0], true);
+    copy(&xs[..i], out);
+    if i == n {
+        return Run::of(i, i);
+    }
+    let m = shorter(ys.len(), out.len() - i);
+    let j = lead(&ys[..m], xs[i], false);
+    lay(out, i, &ys[..j]);
+    let t = i + j;
+    if j == m {
+        return Run::of(t, i);
+    }
+    let more = merge_on(&xs[i..], &ys[j..], &mut out[t..]);
+    Run::of(t + more.moved, i + more.first)
+}
+
+// Merges as many entries as out has room for, and says how many are the first run's.
+pub fn part(xs: &[u64], ys: &[u64], out: &mut [u64]) -> usize
+    requires { ⌜ length (now out) ≤ length (now xs) + length (now ys) ⌝ }
+    ensures { λ r. ⌜ Parts wholeWord (now (xs .entry)) (now (ys .entry)) (now (out .entry)) (now (out .exit)) r ⌝ }
+{
+    // Many buffers of a path are empty.
+    if out.len() == 0 {
+        return 0;
+    }
+    let run = merge_until(xs, ys, out);
+    let moved = run.moved;
+    let first = run.first;
+    let left = out.len() - moved;
+    if left == 0 {
+        return first;
+    }
+    if first < xs.len() {
+        let end = first + left;
+        lay(out, moved, &xs[first..end]);
+        return end;
+    }
+    let second = moved - first;
+    let end = second + left;
+    lay(out, moved, &ys[second..end]);
+    first
+}
+
+// Merges until one run ends, and hands back the unread rest of the run that outlasts the other, or the empty end of the first if both end together.
+pub fn join<'a>(xs: &'a [u64], ys: &'a [u64], out: &mut [u64]) -> &'a [u64]
+    requires { ⌜ untilEnd wholeWord (now xs) (now ys) ≤ length (now out) ⌝ }
+    ensures { λ r. ⌜ Joins wholeWord (xs .entry) (ys .entry) (now (out .entry)) (now (out .exit)) r ⌝ }
+{
+    let run = merge_until(xs, ys, out);
+    let first = run.first;
+    let second = run.moved - first;
+    if second < ys.len() {
+        return &ys[second..];
+    }
+    &xs[first..]
 }
 
 // Merge steps of two inputs that have entries. The heads stay in locals: a step reads one word and writes one.

@@ -1,104 +1,99 @@
--- The loop keeps: t merge steps are laid at the beginning of out, i of them the first run's.
-use mathlib.Core.Path.{refl, sym, _∙_}
-use mathlib.Core.Logic.{⊎-elim}
-use native.Mathlib.Omega.{arith}
-use native.Mathlib.Nat.{zero-add}
-use Prim.Native.Nat.{_-_}
-use lib.ListN.{length}
+-- Where a run has ended and out is not full, the rest comes from the other.
 use Rattle.rules.specs.Entries.{wholeWord}
-use Rattle.runs.proofs.LayingLaws.{Laying, laying-start, lay-first, lay-second, first-has, second-has, parts}
+use Rattle.runs.proofs.EndLaws.{parts-none, parts-full, first-inside, second-inside, parts-first, parts-second}
+use borrow.Author.Needs.{needs}
 use Rattle.runs.proofs.part.Statement.{statement}
 use Rattle.runs.proofs.part.Tie as tie
 
-abbrev Inv-loop : tie.InvT-loop
-Inv-loop xs ys out₀ i₀ t₀ out i t = Laying wholeWord xs ys out₀ out 0 t i
+returns : tie.Need-returns
+returns c = parts-none wholeWord _ _ _ (c .if1 .taken)
 
-abbrev μ-loop : tie.MeasureT-loop
-μ-loop xs ys out₀ i₀ t₀ out i t = length out₀ - t
+merge-until-requires : tie.Need-merge-until-requires
+merge-until-requires c κs = search needs
 
-loop-holds : tie.Need-loop-holds Inv-loop μ-loop
-loop-holds c = laying-start wholeWord _ _ _ 0 (omega arith)
+sub-left : tie.Need-sub-left
+sub-left c = search needs
 
-sub-j : tie.Need-sub-j Inv-loop μ-loop
-sub-j c = omega arith
+same-length : tie.Need-same-length
+same-length c = search needs
 
-moves-first-requires : tie.Need-moves-first-requires Inv-loop μ-loop
-moves-first-requires c κs = tt
+returns-2 : tie.Need-returns-2
+returns-2 c = parts-full wholeWord (c .before .before .before .merge-until .ensures) (c .if2 .taken)
 
-mul-out : tie.Need-mul-out Inv-loop μ-loop
-mul-out c = omega arith
+add-end : tie.Need-add-end
+add-end c = search needs
 
-shared-slice-read-out : tie.Need-shared-slice-read-out Inv-loop μ-loop
-shared-slice-read-out c = first-has wholeWord _ _ _ (sym (c .before .before .moves-first .ensures) ∙ c .before .if1 .taken)
+mul-lay : tie.Need-mul-lay
+mul-lay c = search needs
 
-mul-out-2 : tie.Need-mul-out-2 Inv-loop μ-loop
-mul-out-2 c = omega arith
+sub-lay : tie.Need-sub-lay
+sub-lay c = search needs
 
-slice-write-out : tie.Need-slice-write-out Inv-loop μ-loop
-slice-write-out c = omega arith
+part-lay-start : tie.Need-part-lay-start
+part-lay-start c = search needs
 
-add-i : tie.Need-add-i Inv-loop μ-loop
-add-i c = omega arith
+part-lay-end : tie.Need-part-lay-end
+part-lay-end c = let e = c .before .before in let m = e .before .before .before in first-inside wholeWord (m .merge-until .ensures) (m .before .before .before .before .before .before .pre) (e .if2 .left) (c .before .if3 .taken)
 
-mul-out-3 : tie.Need-mul-out-3 Inv-loop μ-loop
-mul-out-3 c = omega arith
+lay-requires : tie.Need-lay-requires
+lay-requires c κs = search needs
 
-shared-slice-read-out-2 : tie.Need-shared-slice-read-out-2 Inv-loop μ-loop
-shared-slice-read-out-2 c =
-    let l = c .before .before .before .before .loop .inv in
-    second-has wholeWord _ _ _ _ (l .of-first) (l .of-second) (omega arith) (sym (c .before .before .moves-first .ensures) ∙ c .before .if1 .left)
+same-length-2 : tie.Need-same-length-2
+same-length-2 c = search needs
 
-mul-out-4 : tie.Need-mul-out-4 Inv-loop μ-loop
-mul-out-4 c = omega arith
+returns-3 : tie.Need-returns-3
+returns-3 c = let t = c .before .before .before .before .before in let e = t .before in let m = e .before .before .before in parts-first wholeWord (m .merge-until .ensures) (m .before .before .before .before .before .before .pre) (e .if2 .left) (t .if3 .taken) _ (c .before .before .lay .ensures)
 
-slice-write-out-2 : tie.Need-slice-write-out-2 Inv-loop μ-loop
-slice-write-out-2 c = omega arith
+sub-second : tie.Need-sub-second
+sub-second c = search needs
 
-add-t : tie.Need-add-t Inv-loop μ-loop
-add-t c = omega arith
+add-end-2 : tie.Need-add-end-2
+add-end-2 c = search needs
 
-loop-less : tie.Need-loop-less Inv-loop μ-loop
-loop-less c = omega arith
+mul-lay-2 : tie.Need-mul-lay-2
+mul-lay-2 c = search needs
 
-loop-again : tie.Need-loop-again Inv-loop μ-loop
-loop-again c =
-    let l = c .before .before .before .loop .inv in
-    let e = c .before .moves-first .ensures in
-    ⊎-elim
-    (λ w.
-    let first = sym e ∙ w .0 .taken in
-    rw (w .2, w .3) (lay-first wholeWord l _ _ _ _ (sym (zero-add _)) (omega arith) refl refl refl (first-has wholeWord _ _ _ first) first))
-    (λ w.
-    let second = sym e ∙ w .0 .left in
-    rw (w .2, w .3) (lay-second wholeWord l _ _ _ (sym (zero-add _)) (omega arith) refl refl (second-has wholeWord _ _ _ _ (l .of-first) (l .of-second) (omega arith) second) second))
-    (c .if1 .came)
+sub-lay-2 : tie.Need-sub-lay-2
+sub-lay-2 c = search needs
 
-same-length : tie.Need-same-length Inv-loop μ-loop
-same-length c = c .before .loop .inv .sized
+part-lay-start-2 : tie.Need-part-lay-start-2
+part-lay-start-2 c = search needs
 
-returns : tie.Need-returns Inv-loop μ-loop
-returns c = parts wholeWord _ _ _ _ _ _ (c .before .loop .inv) (omega arith)
+part-lay-end-2 : tie.Need-part-lay-end-2
+part-lay-end-2 c = let e = c .before .before in let m = e .before .before .before in second-inside wholeWord (m .merge-until .ensures) (m .before .before .before .before .before .before .pre) (e .if2 .left) (c .before .if3 .left)
+
+lay-requires-2 : tie.Need-lay-requires-2
+lay-requires-2 c κs = search needs
+
+same-length-3 : tie.Need-same-length-3
+same-length-3 c = search needs
+
+returns-4 : tie.Need-returns-4
+returns-4 c = let t = c .before .before .before .before .before in let e = t .before in let m = e .before .before .before in parts-second wholeWord (m .merge-until .ensures) (m .before .before .before .before .before .before .pre) (e .if2 .left) (t .if3 .left) _ (c .before .before .lay2 .ensures)
 
 pub part-spec : {M : Type 1} → statement M
 part-spec =
     tie.close
     (tie.spec
-    Inv-loop
-    μ-loop
-    loop-holds
-    sub-j
-    moves-first-requires
-    mul-out
-    shared-slice-read-out
-    mul-out-2
-    slice-write-out
-    add-i
-    mul-out-3
-    shared-slice-read-out-2
-    mul-out-4
-    slice-write-out-2
-    add-t
-    loop-less
-    loop-again
+    returns
+    merge-until-requires
+    sub-left
     same-length
-    returns)
+    returns-2
+    add-end
+    mul-lay
+    sub-lay
+    part-lay-start
+    part-lay-end
+    lay-requires
+    same-length-2
+    returns-3
+    sub-second
+    add-end-2
+    mul-lay-2
+    sub-lay-2
+    part-lay-start-2
+    part-lay-end-2
+    lay-requires-2
+    same-length-3
+    returns-4)

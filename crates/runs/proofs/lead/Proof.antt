@@ -1,0 +1,59 @@
+-- The loop keeps: n entries were looked through, and all of them go before the head.
+use mathlib.Core.Path.{sym, _∙_}
+use native.Mathlib.Omega.{arith}
+use Prim.Native.Nat.{_-_}
+use borrow.Author.Tests.{not-true, not-false}
+use lib.ListN.{length}
+use Rattle.rules.specs.Entries.{wholeWord}
+use Rattle.runs.proofs.LeadLaws.{Looking, look-start, look-more, look-stops, look-ends}
+use Rattle.runs.proofs.lead.Statement.{statement}
+use Rattle.runs.proofs.lead.Tie as tie
+
+abbrev Inv-loop : tie.InvT-loop
+Inv-loop run head first n₀ n = Looking wholeWord first head run n
+
+abbrev μ-loop : tie.MeasureT-loop
+μ-loop run head first n₀ n = length run - n
+
+loop-holds : tie.Need-loop-holds Inv-loop μ-loop
+loop-holds c = look-start wholeWord _ _ _
+
+mul-goes-before : tie.Need-mul-goes-before Inv-loop μ-loop
+mul-goes-before c = omega arith
+
+shared-slice-read-goes-before : tie.Need-shared-slice-read-goes-before Inv-loop μ-loop
+shared-slice-read-goes-before c = omega arith
+
+goes-before-requires : tie.Need-goes-before-requires Inv-loop μ-loop
+goes-before-requires c κs = tt
+
+add-n : tie.Need-add-n Inv-loop μ-loop
+add-n c = omega arith
+
+loop-less : tie.Need-loop-less Inv-loop μ-loop
+loop-less c = omega arith
+
+loop-again : tie.Need-loop-again Inv-loop μ-loop
+loop-again c = let e = c .before in let g = e .before .before in look-more wholeWord (g .before .loop .inv) (g .loop-test .taken) (sym (e .goes-before .ensures) ∙ not-false _ (c .if1 .left))
+
+returns : tie.Need-returns Inv-loop μ-loop
+returns c = look-ends wholeWord (c .before .loop .inv) (c .loop-test .left)
+
+returns-2 : tie.Need-returns-2 Inv-loop μ-loop
+returns-2 c = let e = c .before in let g = e .before .before in look-stops wholeWord (g .before .loop .inv) (g .loop-test .taken) (sym (e .goes-before .ensures) ∙ not-true _ (c .if1 .taken))
+
+pub lead-spec : {M : Type 1} → statement M
+lead-spec =
+    tie.close
+    (tie.spec
+    Inv-loop
+    μ-loop
+    loop-holds
+    mul-goes-before
+    shared-slice-read-goes-before
+    goes-before-requires
+    add-n
+    loop-less
+    loop-again
+    returns
+    returns-2)
