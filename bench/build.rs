@@ -1,4 +1,4 @@
-//! Tells the linker where the library of joins is: in GORGALHUT_LIB_DIR, or where `rt staticlib joins` writes it.
+//! Tells the linker of the program `joins` where its library is: in GORGALHUT_LIB_DIR, or where `rt staticlib joins` writes it.
 
 use std::env::{var, var_os};
 use std::path::PathBuf;
@@ -8,11 +8,8 @@ fn main() {
     println!("cargo:rerun-if-changed=build.rs");
     let beside = || PathBuf::from(var("CARGO_MANIFEST_DIR").unwrap()).join("../target/staticlib");
     let directory = var_os("GORGALHUT_LIB_DIR").map_or_else(beside, PathBuf::from);
-    println!("cargo:rustc-link-search=native={}", directory.display());
-    println!("cargo:rustc-link-lib=static=joins");
+    let archive = directory.join("libjoins.a");
+    println!("cargo:rustc-link-arg-bin=joins={}", archive.display());
     // A library built anew is linked anew.
-    println!(
-        "cargo:rerun-if-changed={}",
-        directory.join("libjoins.a").display()
-    );
+    println!("cargo:rerun-if-changed={}", archive.display());
 }

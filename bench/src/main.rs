@@ -1,9 +1,8 @@
-//! Runs one queue on one workload, or joins runs, for an instruction counter to watch:
-//! tools/speed runs it and says what came out in docs/SPEED.md.
+//! Runs one queue on one workload, for an instruction counter to watch: tools/speed
+//! runs it and says what came out in docs/SPEED.md.
 
 mod aligned;
 mod books;
-mod joins;
 mod library;
 mod options;
 mod queues;
@@ -22,7 +21,7 @@ fn run(options: &Options, queue: &mut impl Queue) -> u64 {
     match options.task {
         Task::Hold => workloads::hold(queue, options.held, options.rounds, options.seed),
         Task::Day => workloads::day(queue, options.held, options.rounds, options.seed),
-        Task::Books | Task::Joins | Task::Parts => unreachable!("no queue"),
+        Task::Books => unreachable!("books have no queue"),
     }
 }
 
@@ -30,12 +29,6 @@ fn run(options: &Options, queue: &mut impl Queue) -> u64 {
 fn serve(options: &Options) -> String {
     let sum = match (options.task, options.kind) {
         (Task::Books, _) => return books::run(options.links, options.rounds, options.seed),
-        (Task::Joins, _) => {
-            joins::join(options.runs, options.entries, options.rounds, options.seed)
-        }
-        (Task::Parts, _) => {
-            joins::part(options.runs, options.entries, options.rounds, options.seed)
-        }
         (_, Kind::Gorgalhut) => run(options, &mut Gorgalhut::new(options.links)),
         (_, Kind::Binary) => run(options, &mut Binary::new(options.held)),
         (_, Kind::FourAry) => run(options, &mut FourAry::new(options.held)),

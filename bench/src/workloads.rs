@@ -9,11 +9,6 @@ const DAY: u64 = 864_000_000;
 /// In `hold` an order is followed by one that is due less than this many ticks later: two seconds.
 const NEXT: u64 = 20_000;
 
-/// A sum with one more word; the order in which words come makes a difference.
-pub fn mixed(sum: u64, word: u64) -> u64 {
-    sum.rotate_left(5).wrapping_mul(0x9E37_79B9_7F4A_7C15) ^ word
-}
-
 /// Makes entries, each with a command number of its own (up to 2 to the 24), and sums up what was handed out.
 struct Orders {
     rng: Rng,
@@ -38,9 +33,9 @@ impl Orders {
         due << 32 | door << 24 | self.command
     }
 
-    /// Takes an entry in.
+    /// Takes an entry in; the order in which entries come makes a difference.
     fn see(&mut self, entry: u64) {
-        self.sum = mixed(self.sum, entry);
+        self.sum = self.sum.rotate_left(5).wrapping_mul(0x9E37_79B9_7F4A_7C15) ^ entry;
     }
 }
 
