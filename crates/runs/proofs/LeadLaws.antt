@@ -47,14 +47,14 @@ module _ (key : ℕ → ℕ) where
   look-start first head run = record { inside = omega arith; so-far = zero-add (leading key first head run) }
 
   module _ {first : Bool} {head n : ℕ} {run : List ℕ} (l : Looking first head run n) where
-    pub look-more : n < length run → goesBefore key first (getD run n 0) head ≡ true → Looking first head run (n + 1)
-    look-more h t =
-        let here : leading key first head (drop n run) ≡ suc (leading key first head (drop (n + 1) run)) = rw (drop-cons run n 0 h, add-one) (lead-more first head (getD run n 0) (drop (suc n) run) t) in
+    pub look-more : n < length run → {e : ℕ} → goesBefore key first e head ≡ true → e ≡ getD run n 0 → Looking first head run (n + 1)
+    look-more h t is =
+        let here : leading key first head (drop n run) ≡ suc (leading key first head (drop (n + 1) run)) = rw (drop-cons run n 0 h, add-one) (lead-more first head (getD run n 0) (drop (suc n) run) (rw (← is) t)) in
         record { inside = omega arith; so-far = omega (arith, here, l .so-far) }
 
-    pub look-stops : n < length run → goesBefore key first (getD run n 0) head ≡ false → n ≡ leading key first head run
-    look-stops h t =
-        let here : leading key first head (drop n run) ≡ 0 = rw (drop-cons run n 0 h) (lead-stops first head (getD run n 0) (drop (suc n) run) t) in
+    pub look-stops : n < length run → {e : ℕ} → goesBefore key first e head ≡ false → e ≡ getD run n 0 → n ≡ leading key first head run
+    look-stops h t is =
+        let here : leading key first head (drop n run) ≡ 0 = rw (drop-cons run n 0 h) (lead-stops first head (getD run n 0) (drop (suc n) run) (rw (← is) t)) in
         omega (arith, here, l .so-far)
 
     pub look-ends : length run ≤ n → n ≡ leading key first head run

@@ -15,40 +15,6 @@ pub fn goes_first(x: u64, y: u64) -> bool
     x <= y
 }
 
-// Copies a run to the beginning of a lent part.
-pub fn copy(from: &[u64], to: &mut [u64])
-    requires { ⌜ length (now from) ≤ length (now to) ⌝ }
-    ensures { λ _. ⌜ now (to .exit) ≡ laidAt (now (to .entry)) 0 (now (from .entry)) ⌝ }
-{
-    let mut n: usize = 0;
-    while n < from.len() {
-        to[n] = from[n];
-        n += 1;
-    }
-}
-
-// Lays a run into the array's own stretch that starts at a place.
-pub fn lay(array: &mut [u64], at: usize, from: &[u64])
-    requires { ⌜ at + length (now from) ≤ length (now array) ⌝ }
-    ensures { λ _. ⌜ now (array .exit) ≡ laidAt (now (array .entry)) at (now (from .entry)) ⌝ }
-{
-    copy(from, &mut array[at..]);
-}
-
-// How far merge steps went: the entries that were moved in all, and those of the first input.
-pub struct Run {
-    pub moved: usize,
-    pub first: usize,
-}
-
-impl Run {
-    pub fn of(moved: usize, first: usize) -> Self
-        ensures { λ r. ⌜ (r .moved ≡ moved) × (r .first ≡ first) ⌝ }
-    {
-        Self { moved, first }
-    }
-}
-
 // Whether an entry goes before the other run's head. At equality the first run's does.
 fn goes_before(first: bool, e: u64, head: u64) -> bool
     ensures { λ r. ⌜ r ≡ goesBefore wholeWord first e head ⌝ }
@@ -63,14 +29,14 @@ fn goes_before(first: bool, e: u64, head: u64) -> bool
 fn lead(run: &[u64], head: u64, first: bool) -> usize
     ensures { λ r. ⌜ r ≡ leading wholeWord first head (now (run .entry)) ⌝ }
 {
-    let mut n: usize = 0;
-    while n < run.len() {
-        if !goes_before(first, run[n], head) {
+    let mut ahead: usize = 0;
+    while ahead < run.len() {
+        if !goes_before(first, run[ahead], head) {
             break;
         }
-        n += 1;
+        ahead += 1;
     }
-    n
+    ahead
 }
 
 fn shorter(x: usize, y: usize) -> usize
@@ -174,6 +140,40 @@ pub fn join<'a>(xs: &'a [u64], ys: &'a [u64], out: &mut [u64]) -> &'a [u64]
         return &ys[second..];
     }
     &xs[first..]
+}
+
+// Copies a run to the beginning of a lent part.
+pub fn copy(from: &[u64], to: &mut [u64])
+    requires { ⌜ length (now from) ≤ length (now to) ⌝ }
+    ensures { λ _. ⌜ now (to .exit) ≡ laidAt (now (to .entry)) 0 (now (from .entry)) ⌝ }
+{
+    let mut n: usize = 0;
+    while n < from.len() {
+        to[n] = from[n];
+        n += 1;
+    }
+}
+
+// Lays a run into the array's own stretch that starts at a place.
+pub fn lay(array: &mut [u64], at: usize, from: &[u64])
+    requires { ⌜ at + length (now from) ≤ length (now array) ⌝ }
+    ensures { λ _. ⌜ now (array .exit) ≡ laidAt (now (array .entry)) at (now (from .entry)) ⌝ }
+{
+    copy(from, &mut array[at..]);
+}
+
+// How far merge steps went: the entries that were moved in all, and those of the first input.
+pub struct Run {
+    pub moved: usize,
+    pub first: usize,
+}
+
+impl Run {
+    pub fn of(moved: usize, first: usize) -> Self
+        ensures { λ r. ⌜ (r .moved ≡ moved) × (r .first ≡ first) ⌝ }
+    {
+        Self { moved, first }
+    }
 }
 
 // Merge steps of two inputs that have entries. The heads stay in locals: a step reads one word and writes one.

@@ -1,5 +1,5 @@
--- The loop keeps: n entries were looked through, and all of them go before the head.
-use mathlib.Core.Path.{sym, _∙_}
+-- The loop keeps: so many entries were looked through, and all of them go before the head.
+use mathlib.Core.Path.{refl, sym, _∙_}
 use native.Mathlib.Omega.{arith}
 use Prim.Native.Nat.{_-_}
 use borrow.Author.Tests.{not-true, not-false}
@@ -10,10 +10,10 @@ use Rattle.runs.proofs.lead.Statement.{statement}
 use Rattle.runs.proofs.lead.Tie as tie
 
 abbrev Inv-loop : tie.InvT-loop
-Inv-loop run head first n₀ n = Looking wholeWord first head run n
+Inv-loop run head first ahead₀ ahead = Looking wholeWord first head run ahead
 
 abbrev μ-loop : tie.MeasureT-loop
-μ-loop run head first n₀ n = length run - n
+μ-loop run head first ahead₀ ahead = length run - ahead
 
 loop-holds : tie.Need-loop-holds Inv-loop μ-loop
 loop-holds c = look-start wholeWord _ _ _
@@ -27,20 +27,20 @@ shared-slice-read-goes-before c = omega arith
 goes-before-requires : tie.Need-goes-before-requires Inv-loop μ-loop
 goes-before-requires c κs = tt
 
-add-n : tie.Need-add-n Inv-loop μ-loop
-add-n c = omega arith
+add-ahead : tie.Need-add-ahead Inv-loop μ-loop
+add-ahead c = omega arith
 
 loop-less : tie.Need-loop-less Inv-loop μ-loop
 loop-less c = omega arith
 
 loop-again : tie.Need-loop-again Inv-loop μ-loop
-loop-again c = let e = c .before in let g = e .before .before in look-more wholeWord (g .before .loop .inv) (g .loop-test .taken) (sym (e .goes-before .ensures) ∙ not-false _ (c .if1 .left))
+loop-again c = let e = c .before in let g = e .before .before in look-more wholeWord (g .before .loop .inv) (g .loop-test .taken) (sym (e .goes-before .ensures) ∙ not-false _ (c .if1 .left)) refl
 
 returns : tie.Need-returns Inv-loop μ-loop
 returns c = look-ends wholeWord (c .before .loop .inv) (c .loop-test .left)
 
 returns-2 : tie.Need-returns-2 Inv-loop μ-loop
-returns-2 c = let e = c .before in let g = e .before .before in look-stops wholeWord (g .before .loop .inv) (g .loop-test .taken) (sym (e .goes-before .ensures) ∙ not-true _ (c .if1 .taken))
+returns-2 c = let e = c .before in let g = e .before .before in look-stops wholeWord (g .before .loop .inv) (g .loop-test .taken) (sym (e .goes-before .ensures) ∙ not-true _ (c .if1 .taken)) refl
 
 pub lead-spec : {M : Type 1} → statement M
 lead-spec =
@@ -52,7 +52,7 @@ lead-spec =
     mul-goes-before
     shared-slice-read-goes-before
     goes-before-requires
-    add-n
+    add-ahead
     loop-less
     loop-again
     returns

@@ -33,7 +33,10 @@ part-lay-start : tie.Need-part-lay-start
 part-lay-start c = search needs
 
 part-lay-end : tie.Need-part-lay-end
-part-lay-end c = let e = c .before .before in let m = e .before .before .before in first-inside wholeWord (m .merge-until .ensures) (m .before .before .before .before .before .before .pre) (e .if2 .left) (c .before .if3 .taken)
+part-lay-end c =
+    let e = c .before .before in
+    let m = e .before .before .before in
+    first-inside wholeWord (m .merge-until .ensures) (m .before .before .before .before .before .before .pre) (e .if2 .left) (c .before .if3 .taken)
 
 lay-requires : tie.Need-lay-requires
 lay-requires c κs = search needs
@@ -42,7 +45,11 @@ same-length-2 : tie.Need-same-length-2
 same-length-2 c = search needs
 
 returns-3 : tie.Need-returns-3
-returns-3 c = let t = c .before .before .before .before .before in let e = t .before in let m = e .before .before .before in parts-first wholeWord (m .merge-until .ensures) (m .before .before .before .before .before .before .pre) (e .if2 .left) (t .if3 .taken) _ (c .before .before .lay .ensures)
+returns-3 c =
+    let t = c .before .before .before .before .before in
+    let e = t .before in
+    let m = e .before .before .before in
+    parts-first wholeWord (m .merge-until .ensures) (m .before .before .before .before .before .before .pre) (e .if2 .left) (t .if3 .taken) _ (c .before .before .lay .ensures)
 
 sub-second : tie.Need-sub-second
 sub-second c = search needs
@@ -60,7 +67,10 @@ part-lay-start-2 : tie.Need-part-lay-start-2
 part-lay-start-2 c = search needs
 
 part-lay-end-2 : tie.Need-part-lay-end-2
-part-lay-end-2 c = let e = c .before .before in let m = e .before .before .before in second-inside wholeWord (m .merge-until .ensures) (m .before .before .before .before .before .before .pre) (e .if2 .left) (c .before .if3 .left)
+part-lay-end-2 c =
+    let e = c .before .before in
+    let m = e .before .before .before in
+    second-inside wholeWord (m .merge-until .ensures) (m .before .before .before .before .before .before .pre) (e .if2 .left) (c .before .if3 .left)
 
 lay-requires-2 : tie.Need-lay-requires-2
 lay-requires-2 c κs = search needs
@@ -69,7 +79,11 @@ same-length-3 : tie.Need-same-length-3
 same-length-3 c = search needs
 
 returns-4 : tie.Need-returns-4
-returns-4 c = let t = c .before .before .before .before .before in let e = t .before in let m = e .before .before .before in parts-second wholeWord (m .merge-until .ensures) (m .before .before .before .before .before .before .pre) (e .if2 .left) (t .if3 .left) _ (c .before .before .lay2 .ensures)
+returns-4 c =
+    let t = c .before .before .before .before .before in
+    let e = t .before in
+    let m = e .before .before .before in
+    parts-second wholeWord (m .merge-until .ensures) (m .before .before .before .before .before .before .pre) (e .if2 .left) (t .if3 .left) _ (c .before .before .lay2 .ensures)
 
 pub part-spec : {M : Type 1} → statement M
 part-spec =
