@@ -23,10 +23,10 @@
 #include <stdint.h>
 
 /* The version of header and library; CHANGELOG.md says what each changed. */
-#define GORGALHUT_VERSION "0.2.0"
+#define GORGALHUT_VERSION "0.2.1"
 #define GORGALHUT_VERSION_MAJOR 0
 #define GORGALHUT_VERSION_MINOR 2
-#define GORGALHUT_VERSION_PATCH 0
+#define GORGALHUT_VERSION_PATCH 1
 
 #ifdef __cplusplus
 extern "C" {

@@ -1,19 +1,22 @@
 -- Laws of two lent runs that are merged until one ends: what is handed back, and what a part is still filled with.
 use mathlib.Core.Path.{_≡_, refl, sym, ap, _∙_}
+use mathlib.Core.Bool.{true, false}
 use mathlib.Core.List.{List, []}
 use mathlib.Core.Logic.{_≢_, _⊎_, inl, inr}
 use Prim.Native.Nat.{ℕ, _+_, _-_, _*_, _≤_, _<_}
 use native.Mathlib.Omega.{arith}
 use native.Mathlib.Nat.{zero-add}
 use denote.Ref.{RefT}
-use lib.ListN.{length, take, drop, length-drop, drop-of-length-le}
-use lib.Seq.{drop-cons, drop-drop}
+use lib.ListN.{length, take, drop, getD, length-drop, drop-of-length-le}
+use lib.Seq.{drop-cons, drop-drop, take-all}
 use Rattle.rules.specs.Merge.{merged}
 use Rattle.runs.specs.Until.{Which, the-first, the-second, pick, outlasts, untilEnd, joinUntilEnd}
+use Rattle.runs.specs.Leads.{leading}
 use Rattle.runs.specs.Promises.{laidAt, EndOf, Joins, Parts, Merges}
-use Rattle.runs.proofs.MergeLaws.{reached, merged-one, merged-two, until-enough}
+use Rattle.runs.proofs.MergeLaws.{reached, merged-one, merged-two, until-no-first, until-no-second, until-split, until-enough}
 use Rattle.runs.proofs.JoinLaws.{one-ended}
 use Rattle.runs.proofs.LayingLaws.{Laying, laying-start, length-laid, to-the-end, lay-block, parts}
+use Rattle.runs.proofs.LeadLaws.{first-block, second-block}
 use Rattle.runs.proofs.PromiseLaws.{merges-long, merges-ended}
 
 end-of : (part run : RefT (List ℕ)) (i : ℕ) → i ≤ length (run .now) → part .ptr ≡ (run .ptr .0, i * 8 + run .ptr .1) → part .now ≡ drop i (run .now) → EndOf part run
@@ -22,6 +25,33 @@ end-of part run i h at e =
     record { starts = rw back at; words = rw back e }
 
 module _ (key : ℕ → ℕ) where
+  -- ---- "Where every entry of one run is below the first of the other, copy that run as one block and hand back the other."
+
+  none-left : (xs : List ℕ) → drop (length xs) xs ≡ []
+  none-left xs = let past : length xs ≤ length xs = omega arith in drop-of-length-le xs past
+
+  all-of : (xs : List ℕ) → take (length xs) xs ≡ xs
+  all-of xs = take-all (length xs) xs (omega arith)
+
+  pub first-whole : (xs ys : List ℕ) → 0 < length ys → leading key true (getD ys 0 0) xs ≡ length xs → joinUntilEnd key xs ys ≡ record { laid = xs; run = the-second; rest = ys }
+  unfolding joinUntilEnd pick outlasts
+  first-whole xs ys has every =
+      let b = first-block key (length xs) xs ys has (omega (arith, every)) in
+      let block : merged key (length xs) xs ys ≡ reached xs [] ys = b .moved ∙ rw (all-of xs, none-left xs) in
+      let made : untilEnd key xs ys ≡ length xs =
+      until-split key (length xs) (length xs + length ys) xs ys (b .made (length xs + length ys) (omega arith)) ∙ rw (block, until-no-first) (omega arith) in
+      let second : outlasts ys ≡ the-second = rw (drop-cons ys 0 0 has) in
+      rw (made, block, second)
+
+  pub second-whole : (xs ys : List ℕ) → 0 < length xs → leading key false (getD xs 0 0) ys ≡ length ys → joinUntilEnd key xs ys ≡ record { laid = ys; run = the-first; rest = xs }
+  unfolding joinUntilEnd pick outlasts
+  second-whole xs ys has every =
+      let b = second-block key (length ys) xs ys has (omega (arith, every)) in
+      let block : merged key (length ys) xs ys ≡ reached ys xs [] = b .moved ∙ rw (all-of ys, none-left ys) in
+      let made : untilEnd key xs ys ≡ length ys =
+      until-split key (length ys) (length xs + length ys) xs ys (b .made (length xs + length ys) (omega arith)) ∙ rw (block, until-no-second) (omega arith) in
+      rw (made, block)
+
   -- ---- a joining
 
   -- where out is long enough, one of the runs has ended

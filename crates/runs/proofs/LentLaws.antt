@@ -3,13 +3,13 @@ use mathlib.Core.Path.{_≡_, refl, sym, ap, _∙_}
 use mathlib.Core.Bool.{true, false}
 use mathlib.Core.List.{List, _++_}
 use mathlib.Core.Logic.{_≢_, _⊎_, inl, inr, ⊎-elim}
-use Prim.Native.Nat.{ℕ, suc, _+_, _-_, _≤_, _<_, min}
+use Prim.Native.Nat.{ℕ, _+_, _-_, _≤_, _<_, min}
 use native.Mathlib.Omega.{arith}
 use native.Mathlib.Decide.{decLe}
 use native.Mathlib.Nat.{zero-add, add-zero}
 use lib.Dec.{leb}
-use lib.ListN.{length, take, drop, getD, set, length-drop, drop-of-length-le}
-use lib.Seq.{getD-drop, drop-drop}
+use lib.ListN.{length, take, drop, getD, set, length-drop}
+use lib.Seq.{getD-drop}
 use Rattle.rules.specs.Merge.{merged}
 use Rattle.runs.specs.Until.{untilEmpty}
 use Rattle.runs.specs.Leads.{leading}

@@ -7,3 +7,4 @@ pub mod LentLaws
 pub mod ArrayLaws
 pub mod PromiseLaws
 pub mod EndLaws
+pub mod Examples

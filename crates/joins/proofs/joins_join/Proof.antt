@@ -1,6 +1,6 @@
 -- Both runs fit, or nothing is done.
 use native.Mathlib.Omega.{arith}
-use Prim.Native.Nat.{_+_, _≤_}
+use Prim.Native.Nat.{_+_}
 use lib.ListN.{length}
 use Rattle.rules.specs.Entries.{wholeWord}
 use Rattle.runs.proofs.MergeLaws.{until-most}

@@ -1,5 +1,5 @@
 -- The loop keeps: i + j merge steps are laid, and x and y are the heads at i and j.
-use mathlib.Core.Path.{refl, sym, _∙_}
+use mathlib.Core.Path.{sym, _∙_}
 use mathlib.Core.Logic.{⊎-elim}
 use native.Mathlib.Omega.{arith}
 use Prim.Native.Nat.{_+_, _-_}

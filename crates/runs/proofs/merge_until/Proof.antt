@@ -1,5 +1,5 @@
 -- The runs' leading blocks are laid, then their rests are merged head by head.
-use mathlib.Core.Path.{_≡_, refl, sym, _∙_}
+use mathlib.Core.Path.{refl, sym}
 use native.Mathlib.Omega.{arith}
 use mathlib.Core.List.{List, _++_}
 use Prim.Native.Nat.{ℕ, _+_, _-_, _*_, _≤_, _<_}
@@ -13,7 +13,7 @@ use Rattle.rules.specs.Entries.{wholeWord}
 use Rattle.runs.specs.Promises.{laidAt, Merges}
 use Rattle.runs.proofs.LayingLaws.{to-the-end}
 use Rattle.runs.proofs.RunningLaws.{Running}
-use Rattle.runs.proofs.LentLaws.{over-first, over-second, over-full, none-first, none-second, run-at, led-first, first-over, led-second, second-over, led-on}
+use Rattle.runs.proofs.LentLaws.{none-first, none-second, run-at, led-first, first-over, led-second, second-over, led-on}
 use Rattle.runs.proofs.merge_until.Statement.{statement}
 use Rattle.runs.proofs.merge_until.Tie as tie
 
