@@ -10,7 +10,7 @@ joins join RUNS ENTRIES CALLS            two runs of so many entries joined
 joins part RUNS ENTRIES CALLS            half of their entries merged
     RUNS: interleaving, random, first or second, the run that goes before the other's head
 joins sweeps ORDERS LINKS HELD PAIRS     take one, put one, at a steady number held; puts that sweep are counted
-    ORDERS: near, due up to two seconds after the one taken, or later, due after all that are held
+    ORDERS: near, due less than two seconds after the one taken, or later, due after all that are held
 ";
 
 fn number(words: &[String], at: usize) -> Option<usize> {

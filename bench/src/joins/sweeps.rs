@@ -1,7 +1,7 @@
 //! Inserts that sweep, at a steady number held.
 
 use gorgalhut::c::{gorgalhut_insert, gorgalhut_setup, gorgalhut_take};
-use reference::links::{array_words, most_held};
+use reference::links::{array_words, link, most_held};
 use reference::rng::Rng;
 
 /// When an order is due.
@@ -90,9 +90,9 @@ impl Gate {
         self.taken = word >> 32;
     }
 
-    /// Whether the next insert sweeps: I has seven (docs/BOOK.md), and some counter is at most k(i), which is 2 to the i.
+    /// Whether the next insert sweeps: I has seven (docs/BOOK.md), and some counter is at most k(i).
     fn sweeps_next(&self) -> bool {
-        self.array[8] % 65_536 == 7 && (1..=self.links).any(|i| self.array[i] <= 1 << i)
+        self.array[8] % 65_536 == 7 && (1..=self.links).any(|i| self.array[i] <= link(i).k as u64)
     }
 }
 

@@ -8,7 +8,6 @@ use borrow.Author.Tests.{le-leb, lt-leb}
 use denote.Ref.{RefT}
 use lib.Dec.{leb}
 use lib.ListN.{length, length-drop}
-use Rattle.rules.specs.Tests.{_and_}
 use Rattle.rules.specs.Merge.{merged}
 use Rattle.runs.specs.Promises.{laidAt, Joins, Parts}
 use Rattle.joins.specs.Lent.{Joined, Parted}

@@ -1,4 +1,4 @@
--- What C gets of a joining, and of a part of one. Where out does not fit, nothing is changed.
+-- What C gets of a joining, and of a part of one. Where out does not fit, no word is written and the number is 0.
 use mathlib.Core.Path.{_≡_}
 use mathlib.Core.Bool.{Bool, cond}
 use mathlib.Core.List.{List}
@@ -18,7 +18,7 @@ module _ (key : ℕ → ℕ) where
     pub many : handed ≡ cond done (length (joinUntilEnd key xs ys .rest)) 0
     pub words : rest′ ≡ cond (done and leb handed (length rest)) (laidAt rest 0 (joinUntilEnd key xs ys .rest)) rest
 
-  -- both runs have as many entries as out has words: out is merged whole, and so many of its entries are the first run's
+  -- the runs have together at least as many entries as out has words: out is merged whole, and so many of its entries are the first run's
   pub record Parted (xs ys out out′ : List ℕ) (first : ℕ) (done : Bool) : Type 0 where
     pub done-is : done ≡ leb (length out) (length xs + length ys)
     pub laid : out′ ≡ cond done (merged key (length out) xs ys .out) out

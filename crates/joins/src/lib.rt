@@ -29,7 +29,7 @@ pub extern "C" fn joins_join<'a>(
     true
 }
 
-// Merges the whole of out from two runs that have so many entries. `first` says how many are the first run's.
+// Merges the whole of out where two runs have enough entries for it. `first` says how many are the first run's.
 #[no_mangle]
 pub extern "C" fn joins_part(xs: &[u64], ys: &[u64], out: &mut [u64], first: &mut usize) -> bool
     ensures { λ r. ⌜ Parted wholeWord (now (xs .entry)) (now (ys .entry)) (now (out .entry)) (now (out .exit)) (now (first .exit)) r ⌝ }

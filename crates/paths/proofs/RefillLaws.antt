@@ -7,7 +7,7 @@ use native.Mathlib.Omega.{arith}
 use native.Mathlib.Decide.{decLt, ℕ-discrete}
 use native.Mathlib.Numerals.{add-one}
 use lib.ListN.{length, take, drop, getD, set, length-take, length-drop, drop-of-length-le}
-use lib.Seq.{take-at, drop-at, take-all, drop-cons, drop-drop, getD-take, length-take-le}
+use lib.Seq.{take-at, drop-at, drop-cons, drop-drop, getD-take, length-take-le}
 use Rattle.rules.specs.Entries.{wholeWord}
 use Rattle.rules.specs.Links.{sum, bufferCount}
 use Rattle.rules.specs.Merge.{join}
@@ -91,9 +91,6 @@ module _ (ws : List ℕ) (n : ℕ) (xs ys : List ℕ) (h : Ending ws n xs ys) (a
   }
 
 -- ---- the path
-
-pub to-the-end : (xs : List ℕ) (x : ℕ) → take (length xs - x) (drop x xs) ≡ drop x xs
-to-the-end xs x = take-all (length xs - x) (drop x xs) (simp length-drop (omega arith))
 
 pub sum-more : (cs : List ℕ) (t : ℕ) → t < length cs → sum (take (t + 1) cs) ≡ sum (take t cs) + getD cs t 0
 unfolding sum

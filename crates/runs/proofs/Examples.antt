@@ -15,7 +15,7 @@ pub strictly-below : leading wholeWord false 5 (3 ∷ 5 ∷ 7 ∷ []) ≡ 1
 unfolding leading goesBefore wholeWord
 strictly-below = refl
 
--- "entry by entry": the last entry decides nothing
+-- a run is looked through entry by entry, so its last one decides nothing
 pub the-last-decides-nothing : leading wholeWord true 5 (3 ∷ 9 ∷ 4 ∷ []) ≡ 1
 unfolding leading goesBefore wholeWord
 the-last-decides-nothing = refl

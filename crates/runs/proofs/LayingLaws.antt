@@ -12,7 +12,6 @@ use lib.Dec.{leb}
 use lib.ListN.{length, take, drop, getD, set, length-append, length-take, length-drop, length-set, take-append-drop, drop-of-length-le, List·getD-append}
 use lib.Seq.{drop-cons, set-at, append-snoc, take-at, drop-at, take-append-seam, ext-getD, take-take, take-nil, length-take-le, take-all, drop-drop, take-suc, getD-append-add, getD-take, getD-drop}
 use Rattle.rules.specs.Merge.{merged}
-use Rattle.runs.specs.Until.{movesFirst}
 use Rattle.runs.specs.Promises.{laidAt, stretch, Apart, Parts}
 use Rattle.runs.proofs.MergeLaws.{reached, moves-first, moves-second, merged-more, merged-split, length-out}
 
@@ -197,13 +196,13 @@ module _ (key : ℕ → ℕ) where
         ap (λ b. set b k v) (l .laid) ∙ laid-more a₀ at (merged key t xs ys .out) k v (omega (arith, out-long)) h ∙ ap (laidAt a₀ at) (sym m)
 
     -- the first run's head is laid
-    pub lay-first : (k t′ i′ v : ℕ) → k ≡ at + t → k < length a₀ → t′ ≡ t + 1 → i′ ≡ i + 1 → v ≡ getD xs i 0 → i < length xs
-        → movesFirst key (drop i xs) (drop (t - i) ys) ≡ true → Laying xs ys a₀ (set a k v) at t′ i′
-    lay-first k t′ i′ v ek hk et ei ev hi first =
+    pub lay-first : (k t′ i′ v : ℕ) → k ≡ at + t → k < length a₀ → t′ ≡ t + 1 → i′ ≡ i + 1 → v ≡ getD xs i 0 → i < length xs → t - i < length ys
+        → leb (key v) (key (getD ys (t - i) 0)) ≡ true → Laying xs ys a₀ (set a k v) at t′ i′
+    lay-first k t′ i′ v ek hk et ei ev hi hj first =
         let same : t + 1 - (i + 1) ≡ t - i = omega arith in
         let cut : drop i xs ≡ v ∷ drop (i + 1) xs = rw (ev, add-one) (drop-cons xs i 0 hi) in
-        let first′ : movesFirst key (v ∷ drop (i + 1) xs) (drop (t - i) ys) ≡ true = rw cut at first in
-        let m = merged-more key t xs ys (drop (i + 1) xs) (drop (t - i) ys) v (rw (l .one, l .two, cut) (moves-first key v (drop (i + 1) xs) (drop (t - i) ys) first′)) in
+        let other : drop (t - i) ys ≡ getD ys (t - i) 0 ∷ drop (suc (t - i)) ys = drop-cons ys (t - i) 0 hj in
+        let m = merged-more key t xs ys (drop (i + 1) xs) (drop (t - i) ys) v (rw (l .one, l .two, cut, other) (moves-first key v (getD ys (t - i) 0) (drop (i + 1) xs) (drop (suc (t - i)) ys) first)) in
         rw (et, ei)
         record {
           of-first = omega arith;
@@ -217,13 +216,13 @@ module _ (key : ℕ → ℕ) where
         }
 
     -- the second run's head is laid
-    pub lay-second : (k t′ v : ℕ) → k ≡ at + t → k < length a₀ → t′ ≡ t + 1 → v ≡ getD ys (t - i) 0 → t - i < length ys
-        → movesFirst key (drop i xs) (drop (t - i) ys) ≡ false → Laying xs ys a₀ (set a k v) at t′ i
-    lay-second k t′ v ek hk et ev hj second =
+    pub lay-second : (k t′ v : ℕ) → k ≡ at + t → k < length a₀ → t′ ≡ t + 1 → v ≡ getD ys (t - i) 0 → i < length xs → t - i < length ys
+        → leb (key (getD xs i 0)) (key v) ≡ false → Laying xs ys a₀ (set a k v) at t′ i
+    lay-second k t′ v ek hk et ev hi hj second =
         let next : t + 1 - i ≡ suc (t - i) = omega arith in
         let cut : drop (t - i) ys ≡ v ∷ drop (suc (t - i)) ys = rw ev (drop-cons ys (t - i) 0 hj) in
-        let second′ : movesFirst key (drop i xs) (v ∷ drop (suc (t - i)) ys) ≡ false = rw cut at second in
-        let m = merged-more key t xs ys (drop i xs) (drop (suc (t - i)) ys) v (rw (l .one, l .two, cut) (moves-second key v (drop i xs) (drop (suc (t - i)) ys) second′)) in
+        let other : drop i xs ≡ getD xs i 0 ∷ drop (suc i) xs = drop-cons xs i 0 hi in
+        let m = merged-more key t xs ys (drop i xs) (drop (suc (t - i)) ys) v (rw (l .one, l .two, cut, other) (moves-second key (getD xs i 0) v (drop (suc i) xs) (drop (suc (t - i)) ys) second)) in
         rw et
         record {
           of-first = l .of-first;
@@ -256,10 +255,6 @@ module _ (key : ℕ → ℕ) where
               ∙ laid-on a₀ at (merged key t xs ys .out) block (at + t) (omega (arith, out-long)) (omega (arith, l .inside))
               ∙ ap (laidAt a₀ at) (sym (ap (λ z. z .out) whole));
         }
-
-  pub both-heads : (xs ys : List ℕ) (i j : ℕ) → i < length xs → j < length ys → leb (key (getD xs i 0)) (key (getD ys j 0)) ≡ movesFirst key (drop i xs) (drop j ys)
-  unfolding movesFirst
-  both-heads xs ys i j h g = rw (drop-cons xs i 0 h, drop-cons ys j 0 g)
 
   -- out is full
   pub parts : (xs ys out₀ out : List ℕ) (t i : ℕ) → Laying xs ys out₀ out 0 t i → length out₀ ≤ t → Parts key xs ys out₀ out i

@@ -11,20 +11,20 @@ use lib.Dec.{leb}
 use lib.ListN.{length, take, drop, getD, drop-of-length-le}
 use lib.Seq.{drop-cons}
 use Rattle.rules.specs.Merge.{mergeStep, move, merged}
-use Rattle.runs.specs.Until.{movesFirst, untilEmpty}
+use Rattle.runs.specs.Until.{untilEmpty}
 use Rattle.runs.specs.Leads.{goesBefore, leading}
 use Rattle.runs.proofs.MergeLaws.{reached, by-test, merged-suc, moves-first, moves-second, until-first, until-second}
 
 module _ (key : ℕ → ℕ) where
-  pub lead-more : (first : Bool) (head e : ℕ) (run : List ℕ) → goesBefore key first e head ≡ true → leading key first head (e ∷ run) ≡ suc (leading key first head run)
+  lead-more : (first : Bool) (head e : ℕ) (run : List ℕ) → goesBefore key first e head ≡ true → leading key first head (e ∷ run) ≡ suc (leading key first head run)
   unfolding leading
   lead-more first head e run t = ap (λ (b : Bool). cond b (suc (leading key first head run)) 0) t
 
-  pub lead-stops : (first : Bool) (head e : ℕ) (run : List ℕ) → goesBefore key first e head ≡ false → leading key first head (e ∷ run) ≡ 0
+  lead-stops : (first : Bool) (head e : ℕ) (run : List ℕ) → goesBefore key first e head ≡ false → leading key first head (e ∷ run) ≡ 0
   unfolding leading
   lead-stops first head e run t = ap (λ (b : Bool). cond b (suc (leading key first head run)) 0) t
 
-  pub lead-none : (first : Bool) (head : ℕ) → leading key first head [] ≡ 0
+  lead-none : (first : Bool) (head : ℕ) → leading key first head [] ≡ 0
   unfolding leading
   lead-none first head = refl
 
@@ -95,25 +95,25 @@ module _ (key : ℕ → ℕ) where
   }
 
   first-leads : (n y : ℕ) (xs ys : List ℕ) → n ≤ leading key true y xs → Block n xs (y ∷ ys) (take n xs) (drop n xs) (y ∷ ys)
-  unfolding goesBefore movesFirst
+  unfolding goesBefore
   first-leads zero y xs ys h = no-block xs (y ∷ ys)
   first-leads (suc n) y [] ys h = absurd (omega (arith, lead-none true y))
   first-leads (suc n) y (x ∷ xs) ys h =
       by-test (goesBefore key true x y)
       (λ t.
-      block-more n x (x ∷ xs) (y ∷ ys) xs (y ∷ ys) (take n xs) (drop n xs) (y ∷ ys) (moves-first key x xs (y ∷ ys) t) (λ room. until-first key room x y xs ys t)
+      block-more n x (x ∷ xs) (y ∷ ys) xs (y ∷ ys) (take n xs) (drop n xs) (y ∷ ys) (moves-first key x y xs ys t) (λ room. until-first key room x y xs ys t)
       (first-leads n y xs ys (omega (arith, lead-more true y x xs t))))
       (λ t. absurd (omega (arith, lead-stops true y x xs t)))
 
   second-leads : (n x : ℕ) (xs ys : List ℕ) → n ≤ leading key false x ys → Block n (x ∷ xs) ys (take n ys) (x ∷ xs) (drop n ys)
-  unfolding goesBefore movesFirst
+  unfolding goesBefore
   second-leads zero x xs ys h = no-block (x ∷ xs) ys
   second-leads (suc n) x xs [] h = absurd (omega (arith, lead-none false x))
   second-leads (suc n) x xs (y ∷ ys) h =
       by-test (goesBefore key false y x)
       (λ t.
       let below = not-true (leb (key x) (key y)) t in
-      block-more n y (x ∷ xs) (y ∷ ys) (x ∷ xs) ys (take n ys) (x ∷ xs) (drop n ys) (moves-second key y (x ∷ xs) ys below) (λ room. until-second key room x y xs ys below)
+      block-more n y (x ∷ xs) (y ∷ ys) (x ∷ xs) ys (take n ys) (x ∷ xs) (drop n ys) (moves-second key x y xs ys below) (λ room. until-second key room x y xs ys below)
       (second-leads n x xs ys (omega (arith, lead-more false x y ys t))))
       (λ t. absurd (omega (arith, lead-stops false x y ys t)))
 

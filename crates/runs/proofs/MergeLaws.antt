@@ -9,7 +9,7 @@ use native.Mathlib.Nat.{zero-add, suc-add, sub-zero}
 use lib.Dec.{leb}
 use lib.ListN.{length, take, drop}
 use Rattle.rules.specs.Merge.{Step, stop, move, Merged, mergeStep, merged}
-use Rattle.runs.specs.Until.{movesFirst, untilEmpty}
+use Rattle.runs.specs.Until.{untilEmpty}
 
 -- what is reached: these entries are out, and this is left of the inputs
 abbrev pub reached : List ℕ → List ℕ → List ℕ → Merged
@@ -37,15 +37,13 @@ OneLess many (move e xs ys) = many ≡ suc (length xs + length ys)
 module _ (key : ℕ → ℕ) where
   -- ---- one step
 
-  pub moves-first : (x : ℕ) (xs ys : List ℕ) → movesFirst key (x ∷ xs) ys ≡ true → mergeStep key (x ∷ xs) ys ≡ move x xs ys
-  unfolding mergeStep movesFirst
-  moves-first x xs [] t = refl
-  moves-first x xs (y ∷ ys) t = rw (t, mergeStep)
+  pub moves-first : (x y : ℕ) (xs ys : List ℕ) → leb (key x) (key y) ≡ true → mergeStep key (x ∷ xs) (y ∷ ys) ≡ move x xs (y ∷ ys)
+  unfolding mergeStep
+  moves-first x y xs ys t = rw (t, mergeStep)
 
-  pub moves-second : (y : ℕ) (xs ys : List ℕ) → movesFirst key xs (y ∷ ys) ≡ false → mergeStep key xs (y ∷ ys) ≡ move y xs ys
-  unfolding mergeStep movesFirst
-  moves-second y [] ys t = refl
-  moves-second y (x ∷ xs) ys t = rw (t, mergeStep)
+  pub moves-second : (x y : ℕ) (xs ys : List ℕ) → leb (key x) (key y) ≡ false → mergeStep key (x ∷ xs) (y ∷ ys) ≡ move y (x ∷ xs) ys
+  unfolding mergeStep
+  moves-second x y xs ys t = rw (t, mergeStep)
 
   one-less : (xs ys : List ℕ) → OneLess (length xs + length ys) (mergeStep key xs ys)
   unfolding mergeStep
@@ -212,15 +210,15 @@ module _ (key : ℕ → ℕ) where
   -- the steps that are left after some of them
   pub until-split : (m room : ℕ) (xs ys : List ℕ) → m ≤ untilEmpty key room xs ys
       → untilEmpty key room xs ys ≡ m + untilEmpty key (room - m) (merged key m xs ys .one) (merged key m xs ys .two)
-  unfolding merged movesFirst
+  unfolding merged
   until-split zero room xs ys h = rw (zero-add, sub-zero)
   until-split (suc m) zero xs ys h = absurd (omega (arith, until-no-room xs ys))
   until-split (suc m) (suc room) [] ys h = absurd (omega (arith, until-no-first (suc room) ys))
   until-split (suc m) (suc room) (x ∷ xs) [] h = absurd (omega (arith, until-no-second (suc room) (x ∷ xs)))
   until-split (suc m) (suc room) (x ∷ xs) (y ∷ ys) h =
       by-test (leb (key x) (key y))
-      (λ t. split-step m room x (x ∷ xs) (y ∷ ys) xs (y ∷ ys) (moves-first x xs (y ∷ ys) t) (until-first room x y xs ys t) h (until-split m room xs (y ∷ ys)))
-      (λ t. split-step m room y (x ∷ xs) (y ∷ ys) (x ∷ xs) ys (moves-second y (x ∷ xs) ys t) (until-second room x y xs ys t) h (until-split m room (x ∷ xs) ys))
+      (λ t. split-step m room x (x ∷ xs) (y ∷ ys) xs (y ∷ ys) (moves-first x y xs ys t) (until-first room x y xs ys t) h (until-split m room xs (y ∷ ys)))
+      (λ t. split-step m room y (x ∷ xs) (y ∷ ys) (x ∷ xs) ys (moves-second x y xs ys t) (until-second room x y xs ys t) h (until-split m room (x ∷ xs) ys))
 
   -- where the room is never used up, more of it makes no step more
   pub until-enough : (all : ℕ) (xs ys : List ℕ) → length xs + length ys ≤ all → (room : ℕ) → untilEmpty key all xs ys ≤ room → untilEmpty key room xs ys ≡ untilEmpty key all xs ys
@@ -242,9 +240,9 @@ module _ (key : ℕ → ℕ) where
   ended-more room n e xs ys xs′ ys′ s (inr (inr b)) = inr (inr (rw (merged-suc n xs ys, s) b))
 
   pub until-ends : (room : ℕ) (xs ys : List ℕ) → Ended room xs ys (untilEmpty key room xs ys)
-  unfolding merged movesFirst
+  unfolding merged
   until-ends =
       by-until Ended
       (λ xs ys. inl refl) (λ room ys. inr (inl refl)) (λ room xs. inr (inr refl))
-      (λ room x y n xs ys e h. ended-more room n x (x ∷ xs) (y ∷ ys) xs (y ∷ ys) (moves-first x xs (y ∷ ys) e) h)
-      (λ room x y n xs ys e h. ended-more room n y (x ∷ xs) (y ∷ ys) (x ∷ xs) ys (moves-second y (x ∷ xs) ys e) h)
+      (λ room x y n xs ys e h. ended-more room n x (x ∷ xs) (y ∷ ys) xs (y ∷ ys) (moves-first x y xs ys e) h)
+      (λ room x y n xs ys e h. ended-more room n y (x ∷ xs) (y ∷ ys) (x ∷ xs) ys (moves-second x y xs ys e) h)

@@ -7,13 +7,13 @@ use native.Mathlib.Omega.{arith}
 use native.Mathlib.Numerals.{add-one}
 use native.Mathlib.Nat.{zero-add, sub-zero}
 use lib.Dec.{leb}
-use lib.ListN.{length, drop, getD, set, length-drop, drop-of-length-le}
+use lib.ListN.{length, drop, getD, set, drop-of-length-le}
 use lib.Seq.{drop-cons, drop-drop}
 use Rattle.rules.specs.Merge.{merged}
 use Rattle.runs.specs.Until.{untilEmpty}
 use Rattle.runs.specs.Promises.{laidAt, Merges}
-use Rattle.runs.proofs.MergeLaws.{reached, until-first, until-second, until-some, until-no-room, until-no-first, until-no-second, until-within, until-split}
-use Rattle.runs.proofs.LayingLaws.{Laying, laying-start, lay-first, lay-second, lay-block, both-heads}
+use Rattle.runs.proofs.MergeLaws.{reached, until-first, until-second, until-no-room, until-no-first, until-no-second, until-within, until-split}
+use Rattle.runs.proofs.LayingLaws.{Laying, laying-start, lay-first, lay-second, lay-block}
 
 module _ (key : ℕ → ℕ) where
   -- t merge steps of those that the room allows are laid, i entries of them are the first input's
@@ -29,10 +29,6 @@ module _ (key : ℕ → ℕ) where
     left : room - t ≡ suc (room - (t + 1))
     left = omega arith
 
-    -- one step more is to be made
-    pub run-on : t < untilEmpty key room xs ys
-    run-on = omega (arith, r .count, until-some key (room - t) (drop i xs) (drop (t - i) ys) (omega arith) (simp length-drop (omega arith)) (simp length-drop (omega arith)))
-
     pub run-first : (k t′ i′ v : ℕ) → k ≡ at + t → k < length a₀ → t′ ≡ t + 1 → i′ ≡ i + 1 → v ≡ getD xs i 0
         → leb (key (getD xs i 0)) (key (getD ys (t - i) 0)) ≡ true → Running xs ys a₀ (set a k v) at room t′ i′
     run-first k t′ i′ v ek hk et ei ev first =
@@ -41,7 +37,7 @@ module _ (key : ℕ → ℕ) where
         let cut-two = drop-cons ys (t - i) 0 hj in
         let steps : untilEmpty key (room - t) (drop i xs) (drop (t - i) ys) ≡ suc (untilEmpty key (room - (t + 1)) (drop (suc i) xs) (drop (t - i) ys)) =
         rw (left, cut-one, cut-two) (until-first key (room - (t + 1)) (getD xs i 0) (getD ys (t - i) 0) (drop (suc i) xs) (drop (suc (t - i)) ys) first) in
-        let l = lay-first key (r .laying) k t′ i′ v ek hk et ei ev hi (sym (both-heads key xs ys i (t - i) hi hj) ∙ first) in
+        let l = lay-first key (r .laying) k t′ i′ v ek hk et ei ev hi hj (rw ev first) in
         record { laying = l; within = omega arith; count = rw (et, ei, same, add-one i) (omega (arith, r .count, steps)) }
 
     pub run-second : (k t′ v : ℕ) → k ≡ at + t → k < length a₀ → t′ ≡ t + 1 → v ≡ getD ys (t - i) 0
@@ -52,7 +48,7 @@ module _ (key : ℕ → ℕ) where
         let cut-two = drop-cons ys (t - i) 0 hj in
         let steps : untilEmpty key (room - t) (drop i xs) (drop (t - i) ys) ≡ suc (untilEmpty key (room - (t + 1)) (drop i xs) (drop (suc (t - i)) ys)) =
         rw (left, cut-one, cut-two) (until-second key (room - (t + 1)) (getD xs i 0) (getD ys (t - i) 0) (drop (suc i) xs) (drop (suc (t - i)) ys) second) in
-        let l = lay-second key (r .laying) k t′ v ek hk et ev hj (sym (both-heads key xs ys i (t - i) hi hj) ∙ second) in
+        let l = lay-second key (r .laying) k t′ v ek hk et ev hi hj (rw ev second) in
         record { laying = l; within = omega arith; count = rw (et, next) (omega (arith, r .count, steps)) }
 
   module _ {xs ys a₀ a : List ℕ} {at room t i : ℕ} (r : Running xs ys a₀ a at room t i) where

@@ -74,7 +74,7 @@ fn merge_on(xs: &[u64], ys: &[u64], out: &mut [u64]) -> Run
     Run::of(i + j, i)
 }
 
-// Merge steps of two lent runs, until one ends or out is full. What goes before the other run's head is laid as one block: the first run's, then the second's.
+// Merge steps of two lent runs, until one ends or out is full. What of the first goes before the second's head is laid as one block, then what of the second goes before the first's next entry.
 fn merge_until(xs: &[u64], ys: &[u64], out: &mut [u64]) -> Run
     ensures { λ r. ⌜ Merges wholeWord (now (xs .entry)) (now (ys .entry)) (now (out .entry)) (now (out .exit)) 0 (length (now (out .entry))) (r .moved) (r .first) ⌝ }
 {

@@ -3,7 +3,8 @@ use Prim.Native.Nat.{_+_, _-_}
 use native.Mathlib.Omega.{arith}
 use lib.ListN.{getD}
 use Rattle.paths.specs.Refills.{Refilled}
-use Rattle.paths.proofs.RefillLaws.{Refills, to-the-end, refills-first, refills-asks, refills-next, refills-ask-last, refills-last}
+use Rattle.runs.proofs.LayingLaws.{to-the-end}
+use Rattle.paths.proofs.RefillLaws.{Refills, refills-first, refills-asks, refills-next, refills-ask-last, refills-last}
 use Rattle.paths.proofs.refill.Statement.{statement}
 use Rattle.paths.proofs.refill.Tie as tie
 
