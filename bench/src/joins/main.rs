@@ -1,5 +1,8 @@
 //! Joins runs, or sweeps, again and again, for an instruction counter to watch: tools/speed runs it.
 
+// Declared once, where the comparison has them.
+#[path = "../../../compare/src/library/joins/c.rs"]
+mod c;
 mod runs;
 mod sweeps;
 

@@ -1,30 +1,7 @@
 //! Two runs joined, or a part of them merged, again and again.
 
+use crate::c::{joins_join, joins_part};
 use reference::rng::Rng;
-
-// A slice is a pointer and a length in words.
-extern "C" {
-    fn joins_join(
-        xs: *const u64,
-        xs_words: usize,
-        ys: *const u64,
-        ys_words: usize,
-        out: *mut u64,
-        out_words: usize,
-        rest: *mut u64,
-        rest_words: usize,
-        handed: *mut usize,
-    ) -> bool;
-    fn joins_part(
-        xs: *const u64,
-        xs_words: usize,
-        ys: *const u64,
-        ys_words: usize,
-        out: *mut u64,
-        out_words: usize,
-        first: *mut usize,
-    ) -> bool;
-}
 
 /// The words of a run's random entries are below this.
 const RANGE: u64 = 1 << 48;

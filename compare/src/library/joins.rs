@@ -2,30 +2,8 @@
 
 use crate::lent::Lent;
 
-// A slice is a pointer and a length in words.
 #[cfg(feature = "joins")]
-extern "C" {
-    fn joins_join(
-        xs: *const u64,
-        xs_words: usize,
-        ys: *const u64,
-        ys_words: usize,
-        out: *mut u64,
-        out_words: usize,
-        rest: *mut u64,
-        rest_words: usize,
-        handed: *mut usize,
-    ) -> bool;
-    fn joins_part(
-        xs: *const u64,
-        xs_words: usize,
-        ys: *const u64,
-        ys_words: usize,
-        out: *mut u64,
-        out_words: usize,
-        first: *mut usize,
-    ) -> bool;
-}
+mod c;
 
 /// What is lent for a join or a part; a part gets no rest.
 pub struct Runs {
@@ -52,6 +30,7 @@ pub use without_joins::{join, part};
 
 #[cfg(feature = "joins")]
 mod with_joins {
+    use super::c::{joins_join, joins_part};
     use super::*;
 
     const CANARY: usize = 0xC0DE_CAFE_C0DE_CAFE;

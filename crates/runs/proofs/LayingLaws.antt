@@ -128,6 +128,9 @@ stretch-drop a from end n =
 pub to-the-end : (xs : List ℕ) (i : ℕ) → take (length xs - i) (drop i xs) ≡ drop i xs
 to-the-end xs i = take-all (length xs - i) (drop i xs) (simp length-drop (omega arith))
 
+pub rest-has : (xs : List ℕ) (i : ℕ) → i < length xs → 0 < length (take (length xs - i) (drop i xs))
+rest-has xs i h = rw (to-the-end xs i, length-drop) (omega arith)
+
 -- ---- a copy
 
 -- i words of a run are copied
