@@ -8,14 +8,13 @@ use native.Mathlib.Omega.{arith}
 use native.Mathlib.Decide.{decLt}
 use lib.Dec.{T, eqb, lit≤}
 use Rattle.rules.specs.declared.Answer.{Answer}
-use Rattle.rules.specs.declared.Answer.the-variants.{Done, WorkShort, Full, NoneHeld, DoorAbove, NoPlace}
+use Rattle.rules.specs.declared.Answer.the-variants.{Done, WorkShort, Full, NoneHeld, DoorAbove}
 use Rattle.rules.specs.Answers.{isDone}
 use Rattle.rules.specs.Entries.{door}
 use Rattle.rules.specs.Links.{most, words}
 use Rattle.rules.specs.Tree.{treeOf}
 use Rattle.rules.specs.Take.{insertion}
 use Rattle.rules.specs.Queue.{Queue, keyOf, held}
-use Rattle.rules.specs.Insert.{inserted}
 use Rattle.rules.specs.Order.{inOrder}
 use Rattle.rules.specs.Book.{isLinkNumber}
 use Rattle.rules.specs.Calls.{queueOf}
@@ -24,15 +23,11 @@ use Rattle.rules.proofs.Weight.{sumOf, oneIf}
 use Rattle.rules.proofs.Full.{no-entries}
 use Rattle.rules.proofs.TakeLaws.{none-weighs}
 use Rattle.rules.proofs.Held.{held-split}
-use Rattle.rules.proofs.BookLaws.{sound-says}
-use Rattle.rules.proofs.InsertLaws.{inserted-fits}
 use Rattle.rules.proofs.History.{Fine, since-fine, since-ordered}
 use Rattle.buffers.specs.Format.{linksIn, bookOf, lentOf}
-use Rattle.buffers.proofs.Exact.{sound-inside}
-use Rattle.queue.proofs.BookLaws.{describes, shaped}
 use Rattle.queue.proofs.AgreeLaws.{the-answer}
 use Rattle.demands.specs.Histories.{Call, Made, accepted, History, since, links, putIn, takenOut, inserts, takes, times, StillHeld}
-use Rattle.demands.specs.Exact.{Enough, WorkEnough, Sound, Answers, no-place, work-short, door-above, full, insert-done, take-done, look-done, held-done, audit-done, none-to-take, none-to-see}
+use Rattle.demands.specs.Exact.{Enough, WorkEnough, Sound, Answers, work-short, door-above, full, insert-done, take-done, look-done, held-done, audit-done, none-to-take, none-to-see}
 use Rattle.rules.proofs.Tests.{truth}
 use Rattle.queue.proofs.CheckLaws.{unlike}
 use Rattle.demands.proofs.CallLaws.{timesHeld, held-word}
@@ -49,22 +44,6 @@ module _ (ws ws′ : List ℕ) (c : Call) (made : Made ws c ws′) where
   made-exactly r =
       let e = exactly (c .work) (lentOf ws) (c .order) r in
       (λ is. e .0 (sym (the-answer (made .called)) ∙ is), λ s. the-answer (made .called) ∙ e .1 s)
-
--- what is left over has its place
-fits : (ws : List ℕ) (work : ℕ) (order : Order) → Sound work order (lentOf ws) → (entry : ℕ) → held (queueOf (lentOf ws)) < most (linksIn ws) → inserted entry (queueOf (lentOf ws)) .fits ≡ true
-unfolding lentOf bookOf queueOf
-fits ws work order so entry less =
-    let inside = sound-inside ws (so .holds) (so .enough .its-own) in
-    let q = queueOf (lentOf ws) in
-    truth (inserted entry q .fits) (inserted-fits entry q (shaped ws inside) (sound-says (bookOf ws) q (describes ws inside) (subst T (sym (so .holds)) tt)) less)
-
-eight-not : (ws : List ℕ) (work : ℕ) {order : Order} → Answers work (lentOf ws) order NoPlace → ⊥
-unfolding lentOf bookOf
-eight-not ws work (no-place entry so d f p) = unlike (sym (fits ws work (insertOf entry) so entry f) ∙ p)
-
--- 8 never comes back
-pub never-eight : (ws ws′ : List ℕ) (c : Call) → Made ws c ws′ → c .answer ≡ NoPlace → ⊥
-never-eight ws ws′ c made is = eight-not ws (c .work) (made-exactly ws ws′ c made NoPlace .0 is)
 
 -- ---- in a history
 
@@ -191,7 +170,7 @@ module _ {cs : List Call} {ws : List ℕ} (h : History cs ws) where
         let room′ : most (linksIn ws) ≤ c .work = rw same-links room in
         let so = book-sound (c .work) (insertOf entry) room′ in
         let fewer : held q < most (linksIn ws) = omega (arith, ap most same-links, number-held h) in
-        told (insertOf entry) Done is (insert-done entry so low fewer (fits ws (c .work) (insertOf entry) so entry fewer))
+        told (insertOf entry) Done is (insert-done entry so low fewer)
 
     -- without its work area it is refused with 3, else for its door with 7
     pub insert-short : (entry : ℕ) → c .order ≡ insertOf entry → c .work < most (links cs) → c .answer ≡ WorkShort

@@ -1,20 +1,28 @@
 -- The three demands and the day tally, side by side. What a call, a history and its sums are: specs/Histories.antt. Each function's contract is a call that was made: MadeLaws.
 use Prim.Native.Nat.{ℕ, _+_, _*_, _/_, _^_, _≤_, _<_}
 use mathlib.Core.Path.{_≡_, refl}
-use mathlib.Core.Logic.{_⊎_}
-use mathlib.Core.Bool.{true, false}
+use mathlib.Core.Logic.{_⊎_, _≢_}
+use mathlib.Core.Bool.{Bool, true, false}
 use mathlib.Core.List.{List, [], _∷_, _++_, flatten}
 use lib.ListN.{length, getD, take, drop}
 use Rattle.rules.specs.declared.Answer.{Answer}
-use Rattle.rules.specs.declared.Answer.the-variants.{Done, NoneHeld, NoPlace}
+use Rattle.rules.specs.declared.Answer.the-variants.{Done, NoneHeld}
+use Rattle.rules.specs.Answers.{numberOf}
 use Rattle.rules.specs.Entries.{door}
 use Rattle.rules.specs.Links.{s, most, words}
+use Rattle.rules.specs.Queue.{held}
+use Rattle.rules.specs.Insert.{entered}
+use Rattle.rules.specs.Rest.{HasPlace}
+use Rattle.rules.specs.Book.{sound}
+use Rattle.rules.specs.Calls.{queueOf}
 use Rattle.rules.specs.Examples.{insertOf, takeIt, lookAt, heldNow, auditIt, call}
+use Rattle.rules.proofs.AnswerLaws.{eight-not-given}
 use Rattle.rules.proofs.EntryOrder.{Earlier}
 use Rattle.rules.proofs.History.{packings-bound}
-use Rattle.buffers.specs.Format.{linksIn, lentOf}
+use Rattle.buffers.specs.Format.{linksIn, bookOf, lentOf}
 use Rattle.buffers.specs.Post.{Unused}
 use Rattle.queue.proofs.AgreeLaws.{Agree}
+use Rattle.tally.specs.declared.Tally.{Tally}
 use Rattle.tally.specs.Day.{nothing, plusEach}
 use Rattle.tally.specs.Sums.{Within}
 use Rattle.sessions.specs.Pieces.{Session, Fed}
@@ -34,6 +42,8 @@ use Rattle.demands.specs.Asked.{DemandTwo, DemandThree, Reports}
 use Rattle.demands.specs.Told.{told, Tells, Packed, Reported}
 use Rattle.demands.specs.Library as library
 use Rattle.gorgalhut.specs.Framed.{FrameRead, FrameWritten}
+use Rattle.gorgalhut.specs.Numbered as numbered
+use Rattle.gorgalhut.proofs.NumberedLaws.{means-nothing}
 use Rattle.demands.specs.Existence.{Exists}
 use Rattle.demands.proofs.HistoryLaws.{stands}
 use Rattle.demands.proofs.BoundLaws.{few-steps, four-rows, one-to-four}
@@ -41,6 +51,7 @@ use Rattle.demands.proofs.SmallestLaws as smallest
 use Rattle.demands.proofs.SmallestLaws.{before, no-setup}
 use Rattle.demands.proofs.SequenceLaws.{from-setup, since-same, links-same}
 use Rattle.demands.proofs.AnswerLaws as answers
+use Rattle.demands.proofs.PlaceLaws.{sound-has-place, insert-has-place}
 use Rattle.demands.proofs.MadeLaws.{Nothing, area-inside, refused-nothing, made-agree}
 use Rattle.demands.proofs.DigitLaws.{eight-digits}
 use Rattle.demands.proofs.TallyLaws.{history-made, since-made, tallied, tally-sums}
@@ -71,10 +82,6 @@ module _ (ws ws′ : List ℕ) (c : Call) (made : Made ws c ws′) where
   pub each-answer-exactly : (r : Answer) → (c .answer ≡ r → Answers (c .work) (lentOf ws) (c .order) r) × (Answers (c .work) (lentOf ws) (c .order) r → c .answer ≡ r)
   each-answer-exactly = answers.made-exactly ws ws′ c made
 
-  -- 8 | "insert: rest of a sweep longer than s(i), or of a packing longer than H": never
-  pub eight-never : c .answer ≡ NoPlace → ⊥
-  eight-never = answers.never-eight ws ws′ c made
-
   -- "a refusal changes nothing", the work area included
   pub refusal-changes-nothing : accepted c ≡ false → Nothing ws ws′ (made .area) (made .left) c
   refusal-changes-nothing = refused-nothing ws ws′ c made
@@ -87,6 +94,25 @@ outcomes-agree = made-agree
 -- "Words past the stated length are never touched": nothing that comes back depends on them, nor on a word of the book that means nothing
 pub never-read : (ws vs ws′ vs′ : List ℕ) (c d : Call) → SameUpTo ws vs → c .order ≡ d .order → c .work ≡ d .work → Made ws c ws′ → Made vs d vs′ → MadeSame ws c d ws′ vs′
 never-read = made-unread
+
+-- ---- what a sweep or a packing leaves over has its place
+
+-- "no array with a sound book leads there": on no array whose book is sound and that is not full does a sweep leave more than s(i) for its destination, nor a packing more than H, whatever the entry put in
+pub rest-has-its-place : (ws : List ℕ) → words (linksIn ws) ≤ length ws → sound (bookOf ws) ≡ true → held (queueOf (lentOf ws)) < most (linksIn ws)
+    → (entry : ℕ) → HasPlace (entered entry (queueOf (lentOf ws)))
+rest-has-its-place = sound-has-place
+
+-- so no insert leads there: one that is done finds such an array, and one that is refused moves nothing
+pub each-insert-has-place : (ws ws′ : List ℕ) (c : Call) → Made ws c ws′ → (entry : ℕ) → c .order ≡ insertOf entry → c .answer ≡ Done → HasPlace (entered entry (queueOf (lentOf ws)))
+each-insert-has-place = insert-has-place
+
+-- "Eight is not given to anything else."
+pub eight-given-to-none : (r : Answer) → numberOf r ≢ 8
+eight-given-to-none = eight-not-given
+
+-- and the tally takes it for a number that means nothing
+pub eight-adds-nothing : (tally : Tally) (call steps : ℕ) (packed : Bool) → (numbered.named call 8 ≡ false) × (numbered.tallied tally call 8 steps packed ≡ tally)
+eight-adds-nothing = means-nothing 8 eight-not-given
 
 -- ---- demand 2: a call c in a history, after the calls `earlier` and before the calls `later`
 

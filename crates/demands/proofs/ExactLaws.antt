@@ -8,19 +8,18 @@ use native.Mathlib.Omega.{arith}
 use borrow.Author.Tests.{leb-true, leb-false, ltb-true, ltb-false, le-leb, lt-leb, lt-ltb, le-ltb}
 use lib.Dec.{T, leb, ltb}
 use Rattle.rules.specs.declared.Answer.{Answer}
-use Rattle.rules.specs.declared.Answer.the-variants.{Done, NoSuchLinks, ArrayShort, WorkShort, BookBroken, Full, NoneHeld, DoorAbove, NoPlace, OrderBroken, NotAFrame}
+use Rattle.rules.specs.declared.Answer.the-variants.{Done, NoSuchLinks, ArrayShort, WorkShort, BookBroken, Full, NoneHeld, DoorAbove, OrderBroken, NotAFrame}
 use Rattle.rules.specs.Answers.{isDone}
 use Rattle.rules.specs.Entries.{door}
 use Rattle.rules.specs.Links.{most, words, mostLinks}
 use Rattle.rules.specs.Tree.{treeOf}
 use Rattle.rules.specs.Queue.{Queue, keyOf, held}
-use Rattle.rules.specs.Insert.{inserted}
 use Rattle.rules.specs.Order.{inOrder}
 use Rattle.rules.specs.Book.{isLinkNumber, sound}
 use Rattle.rules.specs.Calls.{Lent, Outcome, Check, _else_, firstFailing, refused, unless, arrayChecks, takeChecks, queueOf, setup, insertChecks, insert, take, look, heldCall, audit}
 use Rattle.rules.specs.Examples.{Order, setupOf, insertOf, takeIt, lookAt, heldNow, auditIt, call}
 use Rattle.demands.specs.Histories.{isSetup}
-use Rattle.demands.specs.Exact.{NoLinkNumber, Enough, WorkEnough, Sound, Answers, no-links, setup-short, short, short-for-its-links, work-short, no-number, broken, full, none-to-take, none-to-see, door-above, no-place, disordered, setup-done, insert-done, take-done, look-done, held-done, audit-done}
+use Rattle.demands.specs.Exact.{NoLinkNumber, Enough, WorkEnough, Sound, Answers, no-links, setup-short, short, short-for-its-links, work-short, no-number, broken, full, none-to-take, none-to-see, door-above, disordered, setup-done, insert-done, take-done, look-done, held-done, audit-done}
 
 -- ---- checks
 
@@ -50,7 +49,6 @@ is-done BookBroken e = absurd (subst T (sym e) tt)
 is-done Full e = absurd (subst T (sym e) tt)
 is-done NoneHeld e = absurd (subst T (sym e) tt)
 is-done DoorAbove e = absurd (subst T (sym e) tt)
-is-done NoPlace e = absurd (subst T (sym e) tt)
 is-done OrderBroken e = absurd (subst T (sym e) tt)
 is-done NotAFrame e = absurd (subst T (sym e) tt)
 
@@ -180,9 +178,7 @@ module _ (work : ℕ) (a : Lent) where
   says-insert entry =
       let order = insertOf entry in
       let P = Says order in
-      let place = inserted entry (queueOf a) .fits in
-      let c₅ = (place else NoPlace) ∷ [] in
-      let c₄ = (ltb count H else Full) ∷ c₅ in
+      let c₄ = (ltb count H else Full) ∷ [] in
       let c₃ = (leb (door entry) 2 else DoorAbove) ∷ c₄ in
       let c₂ = (sound (a .book) else BookBroken) ∷ c₃ in
       by-array a ((leb H work else WorkShort) ∷ c₂) work order refl (λ enough.
@@ -192,10 +188,7 @@ module _ (work : ℕ) (a : Lent) where
       (λ holds. let so : Sound work order a = record { enough = enough; work-enough = room; holds = holds } in
       by-check DoorAbove c₄ P (leb (door entry) 2)
       (λ d. let low = leb-true (door entry) 2 d in
-      by-check Full c₅ P (ltb count H)
-      (λ f. let less = ltb-true count H f in
-      by-check NoPlace [] P place (λ fits. insert-done entry so low less fits) (λ fits. no-place entry so low less fits))
-      (λ f. full entry so low (ltb-false count H f)))
+      by-check Full [] P (ltb count H) (λ f. insert-done entry so low (ltb-true count H f)) (λ f. full entry so low (ltb-false count H f)))
       (λ d. door-above entry so (leb-false (door entry) 2 d)))
       (λ holds. broken order refl enough room holds))
       (λ w. work-short entry enough (leb-false H work w)))
@@ -234,7 +227,7 @@ module _ (work : ℕ) (a : Lent) where
   rest : Order → List Check
   rest (setupOf l) = []
   rest (insertOf entry) =
-      (leb H work else WorkShort) ∷ (sound (a .book) else BookBroken) ∷ (leb (door entry) 2 else DoorAbove) ∷ (ltb count H else Full) ∷ (inserted entry (queueOf a) .fits else NoPlace) ∷ []
+      (leb H work else WorkShort) ∷ (sound (a .book) else BookBroken) ∷ (leb (door entry) 2 else DoorAbove) ∷ (ltb count H else Full) ∷ []
   rest takeIt = (sound (a .book) else BookBroken) ∷ (ltb 0 count else NoneHeld) ∷ []
   rest lookAt = (sound (a .book) else BookBroken) ∷ (ltb 0 count else NoneHeld) ∷ []
   rest heldNow = (sound (a .book) else BookBroken) ∷ []
@@ -274,12 +267,9 @@ module _ (work : ℕ) (a : Lent) where
   only (none-to-take so none) = first-is takeIt refl (so .enough) ∙ rw (so .holds, none) refl
   only (none-to-see so none) = first-is lookAt refl (so .enough) ∙ rw (so .holds, none) refl
   only (door-above entry so d) = first-is (insertOf entry) refl (so .enough) ∙ rw (le-leb H work (so .work-enough), so .holds, lt-leb (door entry) 2 d) refl
-  only (no-place entry so d f p) =
-      first-is (insertOf entry) refl (so .enough) ∙ rw (le-leb H work (so .work-enough), so .holds, le-leb (door entry) 2 d, lt-ltb count H f, p) refl
   only (disordered so e) = first-is auditIt refl (so .enough) ∙ rw (so .holds, e) refl
   only (setup-done l one four own) = rw (number-holds l one four, le-leb (words l) (a .length) own) refl
-  only (insert-done entry so d f p) =
-      first-is (insertOf entry) refl (so .enough) ∙ rw (le-leb H work (so .work-enough), so .holds, le-leb (door entry) 2 d, lt-ltb count H f, p) refl
+  only (insert-done entry so d f) = first-is (insertOf entry) refl (so .enough) ∙ rw (le-leb H work (so .work-enough), so .holds, le-leb (door entry) 2 d, lt-ltb count H f) refl
   only (take-done so some) = first-is takeIt refl (so .enough) ∙ rw (so .holds, lt-ltb 0 count some) refl
   only (look-done so some) = first-is lookAt refl (so .enough) ∙ rw (so .holds, lt-ltb 0 count some) refl
   only (held-done so) = first-is heldNow refl (so .enough) ∙ rw (so .holds) refl

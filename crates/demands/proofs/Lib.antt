@@ -5,6 +5,7 @@ pub mod SmallestLaws
 pub mod ExactLaws
 pub mod AnswerLaws
 pub mod NumberLaws
+pub mod PlaceLaws
 pub mod SequenceLaws
 pub mod DigitLaws
 pub mod TallyLaws

@@ -5,7 +5,7 @@ use mathlib.Core.Logic.{_⊎_, inl, inr}
 use mathlib.Core.Bool.{false}
 use mathlib.Core.List.{List}
 use Rattle.rules.specs.declared.Answer.{Answer}
-use Rattle.rules.specs.declared.Answer.the-variants.{NoSuchLinks, ArrayShort, WorkShort, BookBroken, Full, NoneHeld, DoorAbove, NoPlace, OrderBroken}
+use Rattle.rules.specs.declared.Answer.the-variants.{NoSuchLinks, ArrayShort, WorkShort, BookBroken, Full, NoneHeld, DoorAbove, OrderBroken}
 use Rattle.rules.specs.Entries.{door}
 use Rattle.rules.specs.Links.{most, words}
 use Rattle.rules.specs.Tree.{treeOf}
@@ -17,7 +17,7 @@ use Rattle.rules.specs.Examples.{Order, setupOf, insertOf, takeIt, lookAt, audi
 use Rattle.buffers.specs.Format.{lentOf}
 use Rattle.demands.specs.Histories.{Call, Made, isSetup}
 use Rattle.demands.specs.Exact.{NoLinkNumber, Enough, WorkEnough, Sound, Answers, no-links, setup-short, short, short-for-its-links, work-short, no-number, broken, full, none-to-take, none-to-see, door-above, disordered}
-use Rattle.demands.proofs.AnswerLaws.{made-exactly, never-eight}
+use Rattle.demands.proofs.AnswerLaws.{made-exactly}
 
 -- ---- when
 
@@ -139,10 +139,6 @@ module _ (ws ws′ : List ℕ) (c : Call) (made : Made ws c ws′) where
 
   pub number-seven : Exactly DoorAbove (WhenSeven (c .work) (c .order) a)
   number-seven = by-row DoorAbove (WhenSeven (c .work) (c .order) a) (seven (c .work) a) (λ w. at (c .work) a DoorAbove (w .1) (door-above (w .0) (w .2) (w .3)))
-
-  -- 8 | "insert: rest of a sweep longer than s(i), or of a packing longer than H": never
-  pub number-eight : Exactly NoPlace ⊥
-  number-eight = (never-eight ws ws′ c made, λ none. absurd none)
 
   pub number-nine : Exactly OrderBroken (WhenNine (c .work) (c .order) a)
   number-nine = by-row OrderBroken (WhenNine (c .work) (c .order) a) (nine (c .work) a) (λ w. at (c .work) a OrderBroken (w .0) (disordered (w .1) (w .2)))

@@ -4,12 +4,11 @@ use mathlib.Core.Path.{_≡_}
 use mathlib.Core.Logic.{_⊎_}
 use mathlib.Core.Bool.{true, false}
 use Rattle.rules.specs.declared.Answer.{Answer}
-use Rattle.rules.specs.declared.Answer.the-variants.{Done, NoSuchLinks, ArrayShort, WorkShort, BookBroken, Full, NoneHeld, DoorAbove, NoPlace, OrderBroken}
+use Rattle.rules.specs.declared.Answer.the-variants.{Done, NoSuchLinks, ArrayShort, WorkShort, BookBroken, Full, NoneHeld, DoorAbove, OrderBroken}
 use Rattle.rules.specs.Entries.{door}
 use Rattle.rules.specs.Links.{most, words}
 use Rattle.rules.specs.Tree.{treeOf}
 use Rattle.rules.specs.Queue.{keyOf, held}
-use Rattle.rules.specs.Insert.{inserted}
 use Rattle.rules.specs.Order.{inOrder}
 use Rattle.rules.specs.Book.{sound}
 use Rattle.rules.specs.Calls.{Lent, queueOf}
@@ -63,15 +62,11 @@ pub data Answers (work : ℕ) (a : Lent) : Order → Answer → Type 0 where
   none-to-see : Sound work lookAt a → held (queueOf a) ≡ 0 → Answers work a lookAt NoneHeld
   -- 7 | "insert: door above 2"
   door-above : (entry : ℕ) → Sound work (insertOf entry) a → 2 < door entry → Answers work a (insertOf entry) DoorAbove
-  -- 8 | "insert: rest of a sweep longer than s(i), or of a packing longer than H"
-  no-place : (entry : ℕ) → Sound work (insertOf entry) a → door entry ≤ 2 → held (queueOf a) < most (a .book .links) → inserted entry (queueOf a) .fits ≡ false
-      → Answers work a (insertOf entry) NoPlace
   -- 9 | "audit: book sound, order rule broken"
   disordered : Sound work auditIt a → inOrder (keyOf (queueOf a)) (treeOf (a .book .links)) (a .buffers) ≡ false → Answers work a auditIt OrderBroken
   -- 0 | "done"
   setup-done : (l : ℕ) → 1 ≤ l → l ≤ 4 → words l ≤ a .length → Answers work a (setupOf l) Done
-  insert-done : (entry : ℕ) → Sound work (insertOf entry) a → door entry ≤ 2 → held (queueOf a) < most (a .book .links) → inserted entry (queueOf a) .fits ≡ true
-      → Answers work a (insertOf entry) Done
+  insert-done : (entry : ℕ) → Sound work (insertOf entry) a → door entry ≤ 2 → held (queueOf a) < most (a .book .links) → Answers work a (insertOf entry) Done
   take-done : Sound work takeIt a → 0 < held (queueOf a) → Answers work a takeIt Done
   look-done : Sound work lookAt a → 0 < held (queueOf a) → Answers work a lookAt Done
   held-done : Sound work heldNow a → Answers work a heldNow Done

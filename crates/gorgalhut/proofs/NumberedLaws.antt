@@ -1,12 +1,14 @@
 -- Calls and answers by their numbers.
-use mathlib.Core.Path.{_≡_, refl}
+use mathlib.Core.Path.{_≡_, refl, ap}
+use mathlib.Core.Logic.{_≢_}
 use mathlib.Core.Bool.{Bool, true, false}
 use Prim.Native.Nat.{ℕ, _≤_, _<_}
 use native.Mathlib.Omega.{arith}
-use borrow.Author.Tests.{le-leb, lt-leb}
+use native.Mathlib.Decide.{decLt}
+use borrow.Author.Tests.{le-leb, lt-leb, eq-eqb, ne-eqb}
 use Rattle.rules.specs.declared.Answer.{Answer}
 use Rattle.rules.specs.Answers.{numberOf, answerOf}
-use Rattle.rules.proofs.AnswerLaws.{answer-again, answer-few}
+use Rattle.rules.proofs.AnswerLaws.{answer-again}
 use Rattle.tally.specs.declared.Call.{Call}
 use Rattle.tally.specs.declared.Call.the-variants.{Setup, Insert, Take, Look, Held, Audit}
 use Rattle.tally.specs.declared.Outcome.{Outcome}
@@ -32,14 +34,14 @@ call-few Held = omega arith
 call-few Audit = omega arith
 
 module _ (call answer : ℕ) where
-  pub both-named : call ≤ 5 → answer ≤ 10 → named call answer ≡ true
-  both-named p q = rw (le-leb call 5 p, le-leb answer 10 q) refl
+  pub both-named : call ≤ 5 → numberOf (answerOf answer) ≡ answer → named call answer ≡ true
+  both-named p q = rw (le-leb call 5 p, eq-eqb (numberOf (answerOf answer)) answer q) refl
 
   pub no-call : 5 < call → named call answer ≡ false
   no-call p = rw (lt-leb call 5 p) refl
 
-  pub no-answer : call ≤ 5 → 10 < answer → named call answer ≡ false
-  no-answer p q = rw (le-leb call 5 p, lt-leb answer 10 q) refl
+  pub no-answer : call ≤ 5 → numberOf (answerOf answer) ≢ answer → named call answer ≡ false
+  no-answer p q = rw (le-leb call 5 p, ne-eqb (numberOf (answerOf answer)) answer q) refl
 
 module _ (tally : Tally) (call answer steps : ℕ) (packed : Bool) where
   tallied-named : named call answer ≡ true → tallied tally call answer steps packed ≡ upToDate tally (callOf call) (record { answer = answerOf answer; steps = steps; packed = packed })
@@ -50,11 +52,22 @@ module _ (tally : Tally) (call answer steps : ℕ) (packed : Bool) where
   unfolding tallied
   tallied-none e = rw e refl
 
-  pub tallied-added : (after : Tally) (c : Call) (a : Answer) → call ≤ 5 → answer ≤ 10 → c ≡ callOf call → a ≡ answerOf answer
+  pub tallied-added : (after : Tally) (c : Call) (a : Answer) → call ≤ 5 → numberOf (answerOf answer) ≡ answer → c ≡ callOf call → a ≡ answerOf answer
       → after ≡ upToDate tally c (record { answer = a; steps = steps; packed = packed }) → after ≡ tallied tally call answer steps packed
   tallied-added after c a p q e f g = rw (tallied-named (both-named call answer p q), ← e, ← f) g
+
+-- a number that no answer has means nothing: it is told so, and nothing is added
+pub means-nothing : (number : ℕ) → ((a : Answer) → numberOf a ≢ number) → (tally : Tally) (call steps : ℕ) (packed : Bool)
+    → (named call number ≡ false) × (tallied tally call number steps packed ≡ tally)
+means-nothing number none tally call steps packed =
+    let unnamed = go (decLt 5 call) in
+    (unnamed, tallied-none tally call number steps packed unnamed)
+  where
+    go : Dec (5 < call) → named call number ≡ false
+    go (yes above) = no-call call number above
+    go (no few) = no-answer call number (omega arith) (none (answerOf number))
 
 -- every call with its outcome, told by its numbers, is added as the document says
 pub tallied-call : (tally : Tally) (c : Call) (o : Outcome) → tallied tally (callNumber c) (numberOf (o .answer)) (o .steps) (o .packed) ≡ upToDate tally c o
 unfolding tallied
-tallied-call tally c o = rw (both-named (callNumber c) (numberOf (o .answer)) (call-few c) (answer-few (o .answer)), call-again c, answer-again (o .answer)) refl
+tallied-call tally c o = rw (both-named (callNumber c) (numberOf (o .answer)) (call-few c) (ap numberOf (answer-again (o .answer))), call-again c, answer-again (o .answer)) refl

@@ -3,7 +3,7 @@ use Prim.Native.Nat.{ℕ}
 use mathlib.Core.Bool.{Bool, cond}
 use lib.Dec.{eqb, leb}
 use Rattle.rules.specs.Tests.{_and_}
-use Rattle.rules.specs.Answers.{answerOf}
+use Rattle.rules.specs.Answers.{numberOf, answerOf}
 use Rattle.tally.specs.declared.Call.{Call}
 use Rattle.tally.specs.declared.Call.the-variants.{Setup, Insert, Take, Look, Held, Audit}
 use Rattle.tally.specs.declared.Tally.{Tally}
@@ -29,7 +29,7 @@ callNumber Audit = 5
 
 -- a call and an answer have these numbers
 abbrev pub named : ℕ → ℕ → Bool
-named call answer = leb call 5 and leb answer 10
+named call answer = leb call 5 and eqb (numberOf (answerOf answer)) answer
 
 -- the tally after a call; numbers that name none add nothing
 unfoldable pub tallied : Tally → ℕ → ℕ → ℕ → Bool → Tally

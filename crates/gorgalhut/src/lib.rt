@@ -137,7 +137,6 @@ fn answer_of(number: u8) -> rules::Answer
         5 => rules::Answer::Full,
         6 => rules::Answer::NoneHeld,
         7 => rules::Answer::DoorAbove,
-        8 => rules::Answer::NoPlace,
         9 => rules::Answer::OrderBroken,
         _ => rules::Answer::NotAFrame,
     }
@@ -159,7 +158,8 @@ pub extern "C" fn gorgalhut_tally_add(
     ensures { λ r. ⌜ tallyOf (now (inserts .exit)) (now (takes .exit)) (now (steps .exit)) (now (packings .exit)) ≡ tallied (tallyOf (now (inserts .entry)) (now (takes .entry)) (now (steps .entry)) (now (packings .entry))) call answer made packed ⌝ }
 {
     if call <= 5 {
-        if answer <= 10 {
+        let meant = answer_of(answer);
+        if rules::number_of(meant) == answer {
             let before = tally::Tally {
                 inserts: *inserts,
                 takes: *takes,
@@ -167,7 +167,7 @@ pub extern "C" fn gorgalhut_tally_add(
                 packings: *packings,
             };
             let outcome = tally::Outcome {
-                answer: answer_of(answer),
+                answer: meant,
                 steps: made,
                 packed,
             };

@@ -6,7 +6,7 @@ use mathlib.Core.List.{List, [], _∷_}
 use lib.Dec.{T, leb, ltb, leb→le}
 use lib.ListN.{length}
 use Rattle.rules.specs.declared.Answer.{Answer}
-use Rattle.rules.specs.declared.Answer.the-variants.{Done, NoSuchLinks, ArrayShort, WorkShort, BookBroken, Full, NoneHeld, DoorAbove, NoPlace, OrderBroken}
+use Rattle.rules.specs.declared.Answer.the-variants.{Done, NoSuchLinks, ArrayShort, WorkShort, BookBroken, Full, NoneHeld, DoorAbove, OrderBroken}
 use Rattle.rules.specs.Answers.{isDone}
 use Rattle.rules.specs.Entries.{door}
 use Rattle.rules.specs.Links.{most, words}
@@ -116,7 +116,7 @@ module _ (a b : Lent) (alike : Depends a b) where
   insert-same : (work entry : ℕ) → Same (rules.insert work entry a) (rules.insert work entry b)
   unfolding rules.insert insertChecks queueOf isDone
   insert-same work entry =
-      let others : Queue → List Check = λ q. (leb (door entry) 2 else DoorAbove) ∷ (ltb (held q) (most (q .links)) else Full) ∷ (inserted entry q .fits else NoPlace) ∷ [] in
+      let others : Queue → List Check = λ q. (leb (door entry) 2 else DoorAbove) ∷ (ltb (held q) (most (q .links)) else Full) ∷ [] in
       let done : Queue → Outcome = λ q. let i = inserted entry q in doneWith 0 (i .steps) (i .packed) (i .queue) in
       let room : Lent → Bool = λ z. leb (most (z .book .links)) work in
       let x = done (queueOf a) in

@@ -1,41 +1,37 @@
--- The checks of insert, one after the other; the eighth cannot fail where the others hold.
+-- The checks of insert, one after the other.
 use Prim.Native.Nat.{ℕ, suc, _/_, _%_, _≤_, _<_}
-use mathlib.Core.Path.{_≡_, refl, sym, _∙_, subst}
+use mathlib.Core.Path.{_≡_, refl, sym, _∙_}
 use mathlib.Core.Logic.{_≢_}
 use mathlib.Core.Bool.{Bool, true, false}
 use mathlib.Core.List.{List, [], _∷_}
 use native.Mathlib.Omega.{arith}
 use borrow.Author.Tests.{le-leb, lt-leb}
-use lib.Dec.{T, leb, ltb}
+use lib.Dec.{leb, ltb}
 use Rattle.rules.specs.declared.Answer.{Answer}
-use Rattle.rules.specs.declared.Answer.the-variants.{Done, WorkShort, BookBroken, Full, DoorAbove, NoPlace}
+use Rattle.rules.specs.declared.Answer.the-variants.{Done, WorkShort, BookBroken, Full, DoorAbove}
 use Rattle.rules.specs.Answers.{numberOf}
 use Rattle.rules.specs.Entries.{door}
 use Rattle.rules.specs.Links.{most}
 use Rattle.rules.specs.Queue.{Queue, held}
-use Rattle.rules.specs.Insert.{inserted}
 use Rattle.rules.specs.Book.{sound}
 use Rattle.rules.specs.Calls.{Check, _else_, firstFailing, arrayChecks, insertChecks, queueOf}
-use Rattle.rules.proofs.Tests.{truth}
-use Rattle.rules.proofs.BookLaws as rules
-use Rattle.rules.proofs.InsertLaws.{inserted-fits}
 use Rattle.buffers.specs.Format.{linksIn, bookOf, lentOf}
 use Rattle.buffers.specs.Post.{Inside}
 use Rattle.buffers.specs.Weights.{heldIfSound}
 use Rattle.buffers.proofs.Exact.{sound-inside}
 use Rattle.queue.proofs.CheckLaws.{array-fails, array-long, others-decide}
-use Rattle.queue.proofs.BookLaws.{describes, shaped, weighed-held}
+use Rattle.queue.proofs.BookLaws.{weighed-held}
 
--- "then insert 3, 4, 7, 5, 8"
-abbrev five : Bool → Bool → Bool → Bool → Bool → List Check
-five t u v w x = (t else WorkShort) ∷ (u else BookBroken) ∷ (v else DoorAbove) ∷ (w else Full) ∷ (x else NoPlace) ∷ []
+-- "then insert 3, 4, 7, 5"
+abbrev four : Bool → Bool → Bool → Bool → List Check
+four t u v w = (t else WorkShort) ∷ (u else BookBroken) ∷ (v else DoorAbove) ∷ (w else Full) ∷ []
 
 abbrev q : List ℕ → Queue
 q ws = queueOf (lentOf ws)
 
 module _ (ws : List ℕ) (work entry : ℕ) where
   abbrev others : List Check
-  others = five (leb (most (linksIn ws)) work) (sound (bookOf ws)) (leb (door entry) 2) (ltb (held (q ws)) (most (linksIn ws))) (inserted entry (q ws) .fits)
+  others = four (leb (most (linksIn ws)) work) (sound (bookOf ws)) (leb (door entry) 2) (ltb (held (q ws)) (most (linksIn ws)))
 
   all-checks : firstFailing (arrayChecks (lentOf ws) others) ≡ firstFailing (insertChecks work entry (lentOf ws))
   unfolding insertChecks queueOf lentOf bookOf
@@ -47,18 +43,18 @@ module _ (ws : List ℕ) (work entry : ℕ) where
     insert-array-fails differ = array-fails ws x x-is others differ ∙ all-checks
 
     module _ (none-fails : numberOf x ≡ 0) where
-      others-now : (t u v w z : Bool) → leb (most (linksIn ws)) work ≡ t → sound (bookOf ws) ≡ u → leb (door entry) 2 ≡ v → ltb (held (q ws)) (most (linksIn ws)) ≡ w → inserted entry (q ws) .fits ≡ z
-          → firstFailing (five t u v w z) ≡ firstFailing (insertChecks work entry (lentOf ws))
-      others-now t u v w z a b c d e = sym (λ i. firstFailing (five (a i) (b i) (c i) (d i) (e i))) ∙ sym (others-decide ws x x-is none-fails others) ∙ all-checks
+      others-now : (t u v w : Bool) → leb (most (linksIn ws)) work ≡ t → sound (bookOf ws) ≡ u → leb (door entry) 2 ≡ v → ltb (held (q ws)) (most (linksIn ws)) ≡ w
+          → firstFailing (four t u v w) ≡ firstFailing (insertChecks work entry (lentOf ws))
+      others-now t u v w a b c d = sym (λ i. firstFailing (four (a i) (b i) (c i) (d i))) ∙ sym (others-decide ws x x-is none-fails others) ∙ all-checks
 
       -- "3 | work area too short"
       pub insert-work-short : work < most (linksIn ws) → WorkShort ≡ firstFailing (insertChecks work entry (lentOf ws))
       unfolding firstFailing
-      insert-work-short h = others-now false _ _ _ _ (lt-leb (most (linksIn ws)) work h) refl refl refl refl
+      insert-work-short h = others-now false _ _ _ (lt-leb (most (linksIn ws)) work h) refl refl refl
 
       pub insert-book-wrong : most (linksIn ws) ≤ work → sound (bookOf ws) ≡ false → BookBroken ≡ firstFailing (insertChecks work entry (lentOf ws))
       unfolding firstFailing
-      insert-book-wrong room e = others-now true false _ _ _ (le-leb (most (linksIn ws)) work room) e refl refl refl
+      insert-book-wrong room e = others-now true false _ _ (le-leb (most (linksIn ws)) work room) e refl refl
 
 -- all checks before 7 hold; the code has read the link number l and its H, m
 pub record Right (ws : List ℕ) (work l m : ℕ) : Type 0 where
@@ -75,13 +71,13 @@ module _ (ws : List ℕ) (work entry l m : ℕ) (h : Right ws work l m) where
   unfolding lentOf bookOf
   insert-inside = sound-inside ws (h .right) (array-long ws (h .answer) (h .answer-is) (h .none-fails) .enough)
 
-  last-checks : (v w z : Bool) → leb (door entry) 2 ≡ v → ltb (held (q ws)) (most (linksIn ws)) ≡ w → inserted entry (q ws) .fits ≡ z → firstFailing (five true true v w z) ≡ firstFailing (insertChecks work entry (lentOf ws))
-  last-checks v w z c d e = others-now ws work entry (h .answer) (h .answer-is) (h .none-fails) true true v w z (le-leb (most (linksIn ws)) work (omega (arith, h .room, h .most-is))) (h .right) c d e
+  last-checks : (v w : Bool) → leb (door entry) 2 ≡ v → ltb (held (q ws)) (most (linksIn ws)) ≡ w → firstFailing (four true true v w) ≡ firstFailing (insertChecks work entry (lentOf ws))
+  last-checks v w c d = others-now ws work entry (h .answer) (h .answer-is) (h .none-fails) true true v w (le-leb (most (linksIn ws)) work (omega (arith, h .room, h .most-is))) (h .right) c d
 
   -- "7 | door above 2"
   pub insert-door-above : 2 < entry / 16777216 % 256 → DoorAbove ≡ firstFailing (insertChecks work entry (lentOf ws))
   unfolding firstFailing door
-  insert-door-above above = last-checks false _ _ (lt-leb (door entry) 2 above) refl refl
+  insert-door-above above = last-checks false _ (lt-leb (door entry) 2 above) refl
 
   module _ (known : entry / 16777216 % 256 ≤ 2) (n : ℕ) (n-is : n ≡ heldIfSound (bookOf ws)) where
     door-is : leb (door entry) 2 ≡ true
@@ -94,16 +90,8 @@ module _ (ws : List ℕ) (work entry l m : ℕ) (h : Right ws work l m) where
     -- "5 | queue full"
     pub insert-full : m ≤ n → Full ≡ firstFailing (insertChecks work entry (lentOf ws))
     unfolding firstFailing
-    insert-full full = last-checks true false _ door-is (lt-leb (suc (held (q ws))) (most (linksIn ws)) (omega (arith, held-is, h .most-is))) refl
-
-    fits-is : held (q ws) < most (linksIn ws) → inserted entry (q ws) .fits ≡ true
-    unfolding queueOf lentOf bookOf
-    fits-is less =
-        truth (inserted entry (q ws) .fits)
-        (inserted-fits entry (q ws) (shaped ws insert-inside) (rules.sound-says (bookOf ws) (q ws) (describes ws insert-inside) (subst T (sym (h .right)) tt)) less)
+    insert-full full = last-checks true false door-is (lt-leb (suc (held (q ws))) (most (linksIn ws)) (omega (arith, held-is, h .most-is)))
 
     pub insert-done : n < m → Done ≡ firstFailing (insertChecks work entry (lentOf ws))
     unfolding firstFailing
-    insert-done few =
-        let less : held (q ws) < most (linksIn ws) = omega (arith, held-is, h .most-is) in
-        last-checks true true true door-is (le-leb (suc (held (q ws))) (most (linksIn ws)) less) (fits-is less)
+    insert-done few = last-checks true true door-is (le-leb (suc (held (q ws))) (most (linksIn ws)) (omega (arith, held-is, h .most-is)))

@@ -16,9 +16,8 @@ use Rattle.rules.specs.Links.{k, numberOfS, bufferCount, words}
 use Rattle.rules.specs.Tree.{linksFrom, treeOf}
 use Rattle.rules.specs.Queue.{Queue, keyOf, counter, held}
 use Rattle.rules.specs.Book.{sound}
-use Rattle.rules.specs.Insert.{placed, lowest, Inserted, swept, packed, entered, makeRoom, inserted}
+use Rattle.rules.specs.Insert.{placed, lowest, Inserted, packed, entered, makeRoom, inserted}
 use Rattle.rules.specs.Calls.{Outcome, queueOf, withBuffers, firstFailing, insertChecks, refused, insert}
-use Rattle.rules.proofs.Tests.{truth}
 use Rattle.rules.proofs.Numbers.{Stands}
 use Rattle.rules.proofs.Sizes.{first-one}
 use Rattle.rules.proofs.Numbering.{links-range, tree-range, s-stands}
@@ -26,7 +25,7 @@ use Rattle.rules.proofs.Held.{held-split}
 use Rattle.rules.proofs.PathCounts.{lowest-is}
 use Rattle.rules.proofs.BookLaws as rules
 use Rattle.rules.proofs.BookKept.{Shaped}
-use Rattle.rules.proofs.SweepKept.{swept-fits}
+use Rattle.rules.proofs.RestLaws.{has-place}
 use Rattle.rules.proofs.InsertLaws.{now-kept, inserted-kept}
 use Rattle.rules.proofs.Accepted.{MayInsert, insert-call-cases}
 use Rattle.buffers.specs.Format.{linksIn, counterIn, markIn, many, bookOf, lentOf, bufferOf, buffersOf}
@@ -87,7 +86,7 @@ module _ (ws work : List ℕ) (moves : CanMove ws work) (kept : rules.Kept 8 (qu
           counted = rw read at (kept .each i low there-q .counter-low);
           unspent = rw read at unspent;
           empty = store-empty;
-          fits = truth (swept i p .fits) (swept-fits 8 p shape kept (kept .few) i low there-q unspent);
+          fits = has-place p shape kept .of-sweep i low there-q unspent;
         }
 
 -- ---- the insert

@@ -198,7 +198,7 @@ pub fn audit(a: &[u64]) -> Outcome
     refusal(Answer::OrderBroken)
 }
 
-// The checks of insert: the array's, then 3, 4, 7, 5. The eighth cannot fail where these hold.
+// The checks of insert: the array's, then 3, 4, 7, 5.
 fn checked_for_insert(a: &[u64], work: usize, entry: u64) -> Answer
     ensures { λ r. ⌜ r ≡ firstFailing (insertChecks work entry (lentOf (now (a .entry)))) ⌝ }
 {

@@ -5,7 +5,7 @@ use mathlib.Core.Bool.{Bool, true, false, not}
 use mathlib.Core.List.{List, [], _∷_}
 use lib.Dec.{T, leb, ltb, leb→le, ltb→lt, T-not}
 use Rattle.rules.specs.declared.Answer.{Answer}
-use Rattle.rules.specs.declared.Answer.the-variants.{Done, NoSuchLinks, ArrayShort, WorkShort, BookBroken, Full, NoneHeld, DoorAbove, NoPlace, OrderBroken}
+use Rattle.rules.specs.declared.Answer.the-variants.{Done, NoSuchLinks, ArrayShort, WorkShort, BookBroken, Full, NoneHeld, DoorAbove, OrderBroken}
 use Rattle.rules.specs.Answers.{isDone}
 use Rattle.rules.specs.Entries.{door}
 use Rattle.rules.specs.Links.{most, words}
@@ -89,14 +89,13 @@ take-holds a t =
     let two = check-holds (ltb 0 (held q)) NoneHeld [] tt (one .1) in
     record { long = z .0; holds = one .0; some = ltb→lt 0 (held q) (two .0) }
 
--- "then insert 3, 4, 7, 5, 8"
+-- "then insert 3, 4, 7, 5"
 pub record MayInsert (work entry : ℕ) (a : Lent) : Type 0 where
   pub long : Long a
   pub room : most (a .book .links) ≤ work
   pub holds : T (sound (a .book))
   pub door-known : door entry ≤ 2
   pub not-full : held (queueOf a) < most (queueOf a .links)
-  pub fits : T (inserted entry (queueOf a) .fits)
 
 module _ (work entry : ℕ) (a : Lent) where
   abbrev links : ℕ
@@ -106,23 +105,20 @@ module _ (work entry : ℕ) (a : Lent) where
   unfolding isDone queueOf insertChecks
   insert-holds t =
       let q = queueOf a in
-      let c₅ = (inserted entry q .fits else NoPlace) ∷ [] in
-      let c₄ = (ltb (held q) (most links) else Full) ∷ c₅ in
+      let c₄ = (ltb (held q) (most links) else Full) ∷ [] in
       let c₃ = (leb (door entry) 2 else DoorAbove) ∷ c₄ in
       let c₂ = (sound (a .book) else BookBroken) ∷ c₃ in
       let z = array-holds a ((leb (most links) work else WorkShort) ∷ c₂) t in
       let one = check-holds (leb (most links) work) WorkShort c₂ tt (z .1) in
       let two = check-holds (sound (a .book)) BookBroken c₃ tt (one .1) in
       let three = check-holds (leb (door entry) 2) DoorAbove c₄ tt (two .1) in
-      let four = check-holds (ltb (held q) (most links)) Full c₅ tt (three .1) in
-      let five = check-holds (inserted entry q .fits) NoPlace [] tt (four .1) in
+      let four = check-holds (ltb (held q) (most links)) Full [] tt (three .1) in
       record {
         long = z .0;
         room = leb→le (most links) work (one .0);
         holds = two .0;
         door-known = leb→le (door entry) 2 (three .0);
         not-full = ltb→lt (held q) (most links) (four .0);
-        fits = five .0;
       }
 
 module _ (a : Lent) (P : Outcome → Type 0) (no-case : (answer : Answer) → Refusal answer → P (refused answer (queueOf a))) where

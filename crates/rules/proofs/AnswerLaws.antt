@@ -1,9 +1,10 @@
 -- An answer and its number say the same.
 use Prim.Native.Nat.{_≤_}
+use mathlib.Core.Logic.{_≢_}
 use mathlib.Core.Path.{_≡_, refl, sym, ap, _∙_}
 use native.Mathlib.Omega.{arith}
 use Rattle.rules.specs.declared.Answer.{Answer}
-use Rattle.rules.specs.declared.Answer.the-variants.{Done, NoSuchLinks, ArrayShort, WorkShort, BookBroken, Full, NoneHeld, DoorAbove, NoPlace, OrderBroken, NotAFrame}
+use Rattle.rules.specs.declared.Answer.the-variants.{Done, NoSuchLinks, ArrayShort, WorkShort, BookBroken, Full, NoneHeld, DoorAbove, OrderBroken, NotAFrame}
 use Rattle.rules.specs.Answers.{numberOf, answerOf}
 
 pub answer-again : (a : Answer) → answerOf (numberOf a) ≡ a
@@ -16,7 +17,6 @@ answer-again BookBroken = refl
 answer-again Full = refl
 answer-again NoneHeld = refl
 answer-again DoorAbove = refl
-answer-again NoPlace = refl
 answer-again OrderBroken = refl
 answer-again NotAFrame = refl
 
@@ -32,6 +32,18 @@ answer-few BookBroken = omega arith
 answer-few Full = omega arith
 answer-few NoneHeld = omega arith
 answer-few DoorAbove = omega arith
-answer-few NoPlace = omega arith
 answer-few OrderBroken = omega arith
 answer-few NotAFrame = omega arith
+
+-- "Eight is not given to anything else."
+pub eight-not-given : (a : Answer) → numberOf a ≢ 8
+eight-not-given Done same = omega arith
+eight-not-given NoSuchLinks same = omega arith
+eight-not-given ArrayShort same = omega arith
+eight-not-given WorkShort same = omega arith
+eight-not-given BookBroken same = omega arith
+eight-not-given Full same = omega arith
+eight-not-given NoneHeld same = omega arith
+eight-not-given DoorAbove same = omega arith
+eight-not-given OrderBroken same = omega arith
+eight-not-given NotAFrame same = omega arith

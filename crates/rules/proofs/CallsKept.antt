@@ -15,7 +15,7 @@ use Rattle.rules.specs.Calls.{Lent, Outcome, queueOf, refused, withBuffe
 use Rattle.rules.specs.Examples.{Order, setupOf, insertOf, takeIt, lookAt, heldNow, auditIt, call}
 use Rattle.rules.proofs.BookLaws.{Kept, Describes, plain-describes, sound-says, says-sound}
 use Rattle.rules.proofs.BookKept.{Shaped, fresh-kept, fresh-shaped, take-kept, take-shaped, look-kept, look-shaped}
-use Rattle.rules.proofs.InsertLaws.{inserted-kept, inserted-shaped, inserted-fits}
+use Rattle.rules.proofs.InsertLaws.{inserted-kept, inserted-shaped}
 use Rattle.rules.proofs.Accepted.{Long, Refusal, setup-cases, take-cases, look-cases, insert-call-cases, held-cases, audit-cases}
 
 -- a lent array whose book says how many entries each buffer has, with as many buffers and counters as its links ask for
@@ -76,10 +76,6 @@ module _ (a : Lent) (lawful : Lawful a) where
       let s = shape-now (may .long) (may .holds) in
       let h = kept-now (may .long) (may .holds) in
       record { kept = inserted-kept entry q s h (may .not-full); shape = inserted-shaped entry q s h (may .not-full) })
-
-  -- refusal 8 cannot happen where no check before it fails
-  pub insert-fits : T (sound (a .book)) → T (isLinkNumber (a .book .links)) → (entry : ℕ) → held q < most (q .links) → T (inserted entry q .fits)
-  insert-fits holds number entry less = inserted-fits entry q (lawful .shape number) (sound-says (a .book) q (lawful .describes) holds) less
 
   -- held and audit change nothing
   pub held-well : LeavesWell (heldCall a)

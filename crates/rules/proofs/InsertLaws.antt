@@ -1,4 +1,4 @@
--- Insert: its cases; nothing is lost, the order and the book rules are kept, and refusal 8 cannot happen.
+-- Insert: its cases; nothing is lost, the order and the book rules are kept, and what is left over has its place.
 use Prim.Native.Nat.{ℕ, suc, _+_, _-_, _≤_, _<_}
 use mathlib.Core.Path.{_≡_, refl, sym, ap, _∙_, subst}
 use mathlib.Core.Logic.{_≢_}
@@ -14,6 +14,7 @@ use Rattle.rules.specs.Take.{insertion, heldIn}
 use Rattle.rules.specs.Queue.{Queue, keyOf, counter, held}
 use Rattle.rules.specs.Order.{ascends, ordered, inOrder}
 use Rattle.rules.specs.Insert.{placed, lowest, Inserted, swept, packed, entered, inserted}
+use Rattle.rules.specs.Rest.{HasPlace}
 use Rattle.rules.proofs.Table.{and-one, and-two}
 use Rattle.rules.proofs.Tests.{and-both}
 use Rattle.rules.proofs.Numbers.{Outside}
@@ -32,8 +33,9 @@ use Rattle.rules.proofs.SweepLaws.{swept-keeps, swept-ordered}
 use Rattle.rules.proofs.PackLaws.{pack-keeps, pack-ordered}
 use Rattle.rules.proofs.BookLaws.{LinkKept, Kept}
 use Rattle.rules.proofs.BookKept.{Shaped}
-use Rattle.rules.proofs.SweepKept.{swept-kept, swept-shaped, swept-fits}
-use Rattle.rules.proofs.PackKept.{number-some, all-fit, packed-kept, packed-shaped, packed-fits}
+use Rattle.rules.proofs.SweepKept.{swept-kept, swept-shaped}
+use Rattle.rules.proofs.PackKept.{number-some, all-fit, packed-kept, packed-shaped}
+use Rattle.rules.proofs.RestLaws.{has-place}
 
 -- ---- "place the entry in I before the first larger one"
 
@@ -164,14 +166,14 @@ module _ (e : ℕ) (q : Queue) where
 
   -- "If I now has 8, let i be the lowest link with c(i) at most k(i), and sweep to it; if none, pack."
   pub insert-cases : (P : Inserted → Type 0)
-      → (length (insertion (with-e .buffers)) ≢ 8 → P (record { queue = with-e; steps = 0; packed = false; fits = true }))
+      → (length (insertion (with-e .buffers)) ≢ 8 → P (record { queue = with-e; steps = 0; packed = false }))
       → (length (insertion (with-e .buffers)) ≡ 8 → goal ≤ with-e .links → P (swept goal with-e))
       → (length (insertion (with-e .buffers)) ≡ 8 → with-e .links < goal → P (packed with-e))
       → P (inserted e q)
   unfolding inserted
   insert-cases P keep sweep pack =
       by-eqb (length (insertion (with-e .buffers))) 8
-      (λ b. P (elim b [ false ↦ record { queue = with-e; steps = 0; packed = false; fits = true } | true ↦ elim (leb goal (with-e .links)) [ true ↦ swept goal with-e | false ↦ packed with-e ] ]))
+      (λ b. P (elim b [ false ↦ record { queue = with-e; steps = 0; packed = false } | true ↦ elim (leb goal (with-e .links)) [ true ↦ swept goal with-e | false ↦ packed with-e ] ]))
       (λ eight. by-leb goal (with-e .links) (λ b. P (elim b [ true ↦ swept goal with-e | false ↦ packed with-e ])) (sweep eight) (pack eight))
       keep
 
@@ -250,12 +252,9 @@ module _ (e : ℕ) (q : Queue) (shape : Shaped q) (kept : Kept 7 q) (less : held
       (λ eight there. swept-shaped 8 now now-shaped now-kept (now-kept .few) destination at-least there (unspent there))
       (λ eight past. packed-shaped 8 now now-shaped now-kept)
 
-  -- "8 | insert: rest of a sweep longer than s(i), or of a packing longer than H": never
-  pub inserted-fits : T (inserted e q .fits)
-  inserted-fits =
-      insert-cases e q (λ z. T (z .fits)) (λ other. tt)
-      (λ eight there. swept-fits 8 now now-shaped now-kept (now-kept .few) destination at-least there (unspent there))
-      (λ eight past. packed-fits 8 now now-shaped now-kept)
+  -- what a sweep or a packing then leaves over has its place
+  pub now-has-place : HasPlace now
+  now-has-place = has-place now now-shaped now-kept
 
   -- ---- entries and order
 

@@ -6,7 +6,7 @@ use native.Mathlib.Omega.{arith}
 use native.Mathlib.Nat.{lt-div-mul-add, div-lt-iff-lt-mul, mul-le-mul-right}
 use lib.ListN.{length, getD, drop, replicate, length-append, length-replicate, getD-replicate, length-take, length-drop, List·getD-append}
 use lib.Seq.{getD-at}
-use lib.Dec.{T, leb, le→leb, leb→le}
+use lib.Dec.{T, leb, leb→le}
 use Rattle.rules.specs.Links.{s, k, capacity, first, numberOfS, most, mostLinks}
 use Rattle.rules.specs.Tree.{Buffers, Tree, kMerger, treeOf}
 use Rattle.rules.specs.Take.{Taken, insertion, heldIn, takeAll}
@@ -168,6 +168,10 @@ module _ (room : ℕ) (q : Queue) (shape : Shaped q) (kept : Kept room q) where
   unfolding treeOf
   fits-kept = inside-links after links 1 (omega arith) (λ m l h. after-inside m l (omega arith))
 
+  -- what was laid is all that is held then
+  pub all-laid : heldAll tree after ≡ length run
+  all-laid = omega (arith, laid-keeps links some run all-fit (λ e. 1), sumOf-ones run, sumOf-ones (insertion after), held-weight tree 0 after)
+
   -- after a packing the book rules hold
   pub packed-kept : Kept 7 (packed q .queue)
   unfolding packed
@@ -178,7 +182,7 @@ module _ (room : ℕ) (q : Queue) (shape : Shaped q) (kept : Kept room q) where
         few = omega arith;
         fits = fits-kept;
         each = each-kept;
-        at-most = omega (arith, laid-keeps links some run all-fit (λ e. 1), sumOf-ones run, sumOf-ones (insertion after), held-weight tree 0 after, all-fit);
+        at-most = omega (arith, all-laid, all-fit);
       }
 
   -- as many counters and buffers as before
@@ -187,8 +191,3 @@ module _ (room : ℕ) (q : Queue) (shape : Shaped q) (kept : Kept room q) where
   packed-shaped =
       let l = length-append (replicate (links - 1) 1) (suc S-used ∷ []) in
       record { counters = omega (arith, length-replicate {A = ℕ} (links - 1) 1, some); buffers = laid-long links some run }
-
-  -- so that refusal 8 cannot come of it
-  pub packed-fits : T (packed q .fits)
-  unfolding packed
-  packed-fits = le→leb (length run) (most links) all-fit

@@ -6,7 +6,6 @@ use mathlib.Core.List.{[]}
 use native.Mathlib.Omega.{arith}
 use native.Mathlib.Nat.{mul-le-mul-right}
 use lib.ListN.{length, getD}
-use lib.Dec.{T, le→leb}
 use Rattle.rules.specs.Links.{s, k, capacity, first, numberOfS, bufferCount}
 use Rattle.rules.specs.Tree.{Buffers, kMerger, treeOf}
 use Rattle.rules.specs.Take.{insertion, heldIn}
@@ -80,9 +79,9 @@ module _ (room : ℕ) (q : Queue) (shape : Shaped q) (kept : Kept room q) (eight
   no-more : (m : ℕ) → m ≢ numberOfS i j → length (getD (z .buffers) m []) ≤ length (getD bs m [])
   no-more = swept-no-more (keyOf q) (q .links) i j low high some unspent bs many
 
-  -- S(i, c(i)) was empty
-  last : length (getD (z .buffers) (numberOfS i j) []) ≡ z .rest
-  last = let e = ap length (kept .each i low high .unused j (omega arith) unspent) in omega (arith, swept-last (keyOf q) (q .links) i j low high some unspent bs many)
+  -- S(i, c(i)) was empty, and has the rest
+  pub rest-laid : length (getD (z .buffers) (numberOfS i j) []) ≡ z .rest
+  rest-laid = let e = ap length (kept .each i low high .unused j (omega arith) unspent) in omega (arith, swept-last (keyOf q) (q .links) i j low high some unspent bs many)
 
   destination : (first i + k i ≤ numberOfS i j) × (numberOfS i j < first (suc i))
   unfolding numberOfS
@@ -99,7 +98,7 @@ module _ (room : ℕ) (q : Queue) (shape : Shaped q) (kept : Kept room q) (eight
       (λ p. absurd (omega (arith, first-mono (suc i) m (omega arith) p, d .1))) in
       let at : first i + y ≡ numberOfS i j = rw same at e in
       let less-i : y < 2 * k i = rw same at less in
-      rw (e, last, same, s-capacity i low bs y (omega (arith, d .0)) less-i) rest-fits)
+      rw (e, rest-laid, same, s-capacity i low bs y (omega (arith, d .0)) less-i) rest-fits)
       (λ e. omega (arith, no-more (first m + y) e, inside y less))
 
   -- ---- its counters
@@ -142,7 +141,7 @@ module _ (room : ℕ) (q : Queue) (shape : Shaped q) (kept : Kept room q) (eight
       let c = counter-at in
       let old = kept .each i low high in
       let held : heldFrom (first i + 1) (2 * k i - 1) (z .buffers) ≤ heldFrom (first i + 1) (2 * k i - 1) bs + z .rest =
-      held-but-one (first i + 1) (2 * k i - 1) (numberOfS i j) (z .rest) bs (z .buffers) no-more (omega (arith, last)) in
+      held-but-one (first i + 1) (2 * k i - 1) (numberOfS i j) (z .rest) bs (z .buffers) no-more (omega (arith, rest-laid)) in
       record {
         counter-low = omega arith;
         counter-high = omega arith;
@@ -212,8 +211,3 @@ module _ (room : ℕ) (q : Queue) (shape : Shaped q) (kept : Kept room q) (eight
   pub swept-shaped : Shaped (swept i q .queue)
   unfolding swept
   swept-shaped = record { counters = raised-long i (q .counters) ∙ shape .counters; buffers = swept-as-many (keyOf q) (q .links) i j low high some unspent bs many ∙ shape .buffers }
-
-  -- so that refusal 8 cannot come of it
-  pub swept-fits : T (swept i q .fits)
-  unfolding swept
-  swept-fits = le→leb (z .rest) (s i) rest-fits

@@ -3,7 +3,7 @@ use Prim.Native.Nat.{ℕ}
 use mathlib.Core.Bool.{Bool, true, false, cond}
 use lib.Dec.{eqb}
 use Rattle.rules.specs.declared.Answer.{Answer}
-use Rattle.rules.specs.declared.Answer.the-variants.{Done, NoSuchLinks, ArrayShort, WorkShort, BookBroken, Full, NoneHeld, DoorAbove, NoPlace, OrderBroken, NotAFrame}
+use Rattle.rules.specs.declared.Answer.the-variants.{Done, NoSuchLinks, ArrayShort, WorkShort, BookBroken, Full, NoneHeld, DoorAbove, OrderBroken, NotAFrame}
 
 -- "Every call answers with a number"
 abbrev pub numberOf : Answer → ℕ
@@ -15,7 +15,6 @@ numberOf BookBroken = 4
 numberOf Full = 5
 numberOf NoneHeld = 6
 numberOf DoorAbove = 7
-numberOf NoPlace = 8
 numberOf OrderBroken = 9
 numberOf NotAFrame = 10
 
@@ -23,7 +22,7 @@ numberOf NotAFrame = 10
 unfoldable pub isDone : Answer → Bool
 isDone answer = eqb (numberOf answer) 0
 
--- and the answer that has a number
+-- and the answer that has a number; a number that none has reads as the last one
 unfoldable pub answerOf : ℕ → Answer
 answerOf n =
     cond (eqb n 0) Done
@@ -34,6 +33,5 @@ answerOf n =
     (cond (eqb n 5) Full
     (cond (eqb n 6) NoneHeld
     (cond (eqb n 7) DoorAbove
-    (cond (eqb n 8) NoPlace
     (cond (eqb n 9) OrderBroken
-    NotAFrame)))))))))
+    NotAFrame))))))))

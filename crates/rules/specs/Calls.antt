@@ -5,7 +5,7 @@ use mathlib.Core.List.{List, [], _∷_}
 use lib.ListN.{length}
 use lib.Dec.{leb, ltb}
 use Rattle.rules.specs.declared.Answer.{Answer}
-use Rattle.rules.specs.declared.Answer.the-variants.{Done, NoSuchLinks, ArrayShort, WorkShort, BookBroken, Full, NoneHeld, DoorAbove, NoPlace, OrderBroken, NotAFrame}
+use Rattle.rules.specs.declared.Answer.the-variants.{Done, NoSuchLinks, ArrayShort, WorkShort, BookBroken, Full, NoneHeld, DoorAbove, OrderBroken, NotAFrame}
 use Rattle.rules.specs.Answers.{isDone}
 use Rattle.rules.specs.Entries.{door}
 use Rattle.rules.specs.Links.{most, words}
@@ -72,7 +72,7 @@ setup links a =
     let accepted : Outcome = record { answer = Done; word = 0; steps = 0; packed = false; queue = fresh links } in
     unless (firstFailing ((isLinkNumber links else NoSuchLinks) ∷ (leb (words links) (a .length) else ArrayShort) ∷ [])) (queueOf a) accepted
 
--- "then insert 3, 4, 7, 5, 8"
+-- "then insert 3, 4, 7, 5"
 unfoldable pub insertChecks : ℕ → ℕ → Lent → List Check
 unfolding arrayChecks most sound door held inserted queueOf
 insertChecks work entry a =
@@ -82,7 +82,6 @@ insertChecks work entry a =
     ∷ (sound (a .book) else BookBroken)
     ∷ (leb (door entry) 2 else DoorAbove)
     ∷ (ltb (held q) (most (q .links)) else Full)
-    ∷ (inserted entry q .fits else NoPlace)
     ∷ [])
 
 unfoldable pub insert : ℕ → ℕ → Lent → Outcome

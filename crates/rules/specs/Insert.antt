@@ -1,11 +1,11 @@
 -- Insert: the entry goes into I; eight in I are swept or packed.
-use Prim.Native.Nat.{ℕ, zero, suc, _+_, _-_}
+use Prim.Native.Nat.{ℕ, suc}
 use mathlib.Core.Bool.{Bool, true, false}
-use mathlib.Core.List.{List, [], _∷_, _++_}
+use mathlib.Core.List.{List, [], _∷_}
 use lib.ListN.{length, set}
 use lib.Dec.{leb, ltb, eqb}
-use Rattle.rules.specs.Links.{s, k, most}
-use Rattle.rules.specs.Tree.{Buffers, treeOf}
+use Rattle.rules.specs.Links.{k}
+use Rattle.rules.specs.Tree.{treeOf}
 use Rattle.rules.specs.Take.{takeAll, insertion}
 use Rattle.rules.specs.Queue.{Queue, keyOf, counter}
 use Rattle.rules.specs.Sweep.{sweepTo, raised, laidOut, packedCounters}
@@ -21,25 +21,24 @@ unfolding k
 lowest i [] = i
 lowest i (c ∷ cs) = elim (leb c (k i)) [ true ↦ i | false ↦ lowest (suc i) cs ]
 
--- an accepted insert: the queue afterwards, the steps, whether it packed; and whether what is left over has its place
+-- an accepted insert: the queue afterwards, the steps, and whether it packed
 pub record Inserted : Type 0 where
   pub queue : Queue
   pub steps : ℕ
   pub packed : Bool
-  pub fits : Bool
 
 unfoldable pub swept : ℕ → Queue → Inserted
-unfolding sweepTo keyOf counter raised s
+unfolding sweepTo keyOf counter raised
 swept i q =
     let z = sweepTo (keyOf q) i (counter q i) (q .buffers) in
-    record { queue = record { links = q .links; counters = raised i (q .counters); buffers = z .buffers }; steps = z .steps; packed = false; fits = leb (z .rest) (s i) }
+    record { queue = record { links = q .links; counters = raised i (q .counters); buffers = z .buffers }; steps = z .steps; packed = false }
 
 -- "Pack: take everything out by repeated takes, then lay it in order"
 unfoldable pub packed : Queue → Inserted
-unfolding takeAll treeOf keyOf laidOut packedCounters most
+unfolding takeAll treeOf keyOf laidOut packedCounters
 packed q =
     let z = takeAll (keyOf q) (treeOf (q .links)) (q .buffers) in
-    record { queue = record { links = q .links; counters = packedCounters (q .links) (length (z .out)); buffers = laidOut (q .links) (z .out) }; steps = z .steps; packed = true; fits = leb (length (z .out)) (most (q .links)) }
+    record { queue = record { links = q .links; counters = packedCounters (q .links) (length (z .out)); buffers = laidOut (q .links) (z .out) }; steps = z .steps; packed = true }
 
 -- the queue with the entry in I
 unfoldable pub entered : ℕ → Queue → Queue
@@ -51,7 +50,7 @@ unfoldable pub makeRoom : Queue → Inserted
 unfolding insertion lowest swept packed
 makeRoom q =
     elim (eqb (length (insertion (q .buffers))) 8) [
-      | false ↦ record { queue = q; steps = 0; packed = false; fits = true }
+      | false ↦ record { queue = q; steps = 0; packed = false }
       | true ↦
           let i = lowest 1 (q .counters) in
           elim (leb i (q .links)) [ true ↦ swept i q | false ↦ packed q ]

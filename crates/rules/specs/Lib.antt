@@ -9,6 +9,7 @@ pub mod Take
 pub mod Queue
 pub mod Sweep
 pub mod Insert
+pub mod Rest
 pub mod Order
 pub mod Book
 pub mod Calls

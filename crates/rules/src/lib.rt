@@ -164,7 +164,6 @@ pub enum Answer {
     Full,
     NoneHeld,
     DoorAbove,
-    NoPlace,
     OrderBroken,
     NotAFrame,
 }
@@ -182,7 +181,6 @@ pub fn number_of(answer: Answer) -> u8
         Answer::Full => 5,
         Answer::NoneHeld => 6,
         Answer::DoorAbove => 7,
-        Answer::NoPlace => 8,
         Answer::OrderBroken => 9,
         Answer::NotAFrame => 10,
     }

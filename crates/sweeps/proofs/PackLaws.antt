@@ -8,7 +8,6 @@ use native.Mathlib.Omega.{arith}
 use native.Mathlib.Decide.{decLt}
 use native.Mathlib.Nat.{div-lt-iff-lt-mul}
 use native.Mathlib.Numerals.{add-one}
-use lib.Dec.{leb}
 use lib.ListN.{length, getD, take, drop, replicate, length-append, length-replicate, getD-replicate, List·getD-append}
 use lib.Seq.{ext-getD, getD-at, take-append-seam, length-take-le}
 use Rattle.rules.specs.Entries.{wholeWord}
@@ -71,7 +70,7 @@ counters-are f links n low last before =
 abbrev packedIn : List ℕ → ℕ → Inserted
 packedIn ws links =
     let z = takeAll wholeWord (linksFrom 1 links) (buffersOf ws) in
-    record { queue = record { links = links; counters = packedCounters links (length (z .out)); buffers = laidOut links (z .out) }; steps = z .steps; packed = true; fits = leb (length (z .out)) (most links) }
+    record { queue = record { links = links; counters = packedCounters links (length (z .out)); buffers = laidOut links (z .out) }; steps = z .steps; packed = true }
 
 packed-is : (ws : List ℕ) (links : ℕ) → linksIn ws ≡ links → packed (queueOf (lentOf ws)) ≡ packedIn ws links
 unfolding packed keyOf treeOf queueOf lentOf bookOf

@@ -22,7 +22,7 @@ use Rattle.takes.proofs.ReadyLaws.{insertion-has, insertion-is}
 -- ---- the three cases of making room
 
 abbrev nothing-made : Queue → Inserted
-nothing-made q = record { queue = q; steps = 0; packed = false; fits = true }
+nothing-made q = record { queue = q; steps = 0; packed = false }
 
 abbrev goal : Queue → ℕ
 goal q = lowest 1 (q .counters)

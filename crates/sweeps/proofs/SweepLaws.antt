@@ -2,11 +2,9 @@
 use Prim.Native.Nat.{ℕ, zero, suc, _+_, _-_, _≤_, _<_}
 use mathlib.Core.Path.{_≡_, sym, ap, _∙_, subst}
 use mathlib.Core.Logic.{inr}
-use mathlib.Core.Bool.{true}
 use mathlib.Core.List.{List, [], _∷_, _++_, map}
 use native.Mathlib.Omega.{arith}
 use native.Mathlib.Decide.{decLt, ℕ-discrete}
-use borrow.Author.Tests.{leb-true}
 use lib.Dec.{leb, leb→le}
 use lib.ListN.{length, getD, take, drop}
 use lib.Seq.{ext-getD, take-at, length-take-le}
@@ -18,6 +16,7 @@ use Rattle.rules.specs.Take.{Taken, insertion, takeAll}
 use Rattle.rules.specs.Queue.{Queue, keyOf, counter, heldFrom}
 use Rattle.rules.specs.Sweep.{outputs, pathInLink, path, counts, runAlong, sweepTo, raised}
 use Rattle.rules.specs.Insert.{swept}
+use Rattle.rules.specs.Rest.{restOfSweep}
 use Rattle.rules.specs.Calls.{queueOf}
 use Rattle.rules.proofs.Table.{each-link, k-most}
 use Rattle.rules.proofs.Numbers.{Stands}
@@ -176,8 +175,8 @@ module _ (ws : List ℕ) (i : ℕ) (work : List ℕ) (h : CanSweep ws i work) wh
       )
 
   rest-fits : sweepTo wholeWord i j bs .rest ≤ s i
-  unfolding swept keyOf queueOf lentOf
-  rest-fits = leb-true (sweepTo wholeWord i j bs .rest) (s i) (subst (λ c. leb (sweepTo wholeWord i c (buffersOf ws) .rest) (s i) ≡ true) counter-q (h .fits))
+  unfolding restOfSweep keyOf queueOf lentOf
+  rest-fits = subst (λ c. sweepTo wholeWord i c (buffersOf ws) .rest ≤ s i) counter-q (h .fits)
 
   long-run : length along + length (z .out) ≡ sum (counts (path i j) bs) + sweepTo wholeWord i j bs .rest
   long-run = sym (join-long wholeWord along (z .out)) ∙ sweep-long wholeWord links i j (h .low) (h .there) (h .counted) (h .unspent) bs as-many

@@ -1,13 +1,13 @@
 -- What making room in I asks and ensures: a sweep, a packing; and what an insert leaves of its work area.
 use mathlib.Core.Path.{_≡_}
-use mathlib.Core.Bool.{true}
 use mathlib.Core.List.{List, []}
 use Prim.Native.Nat.{ℕ, _≤_}
 use lib.ListN.{length, getD, take}
-use Rattle.rules.specs.Links.{k, most, numberOfS, words}
+use Rattle.rules.specs.Links.{s, k, most, numberOfS, words}
 use Rattle.rules.specs.Tree.{linksFrom}
 use Rattle.rules.specs.Queue.{heldFrom}
-use Rattle.rules.specs.Insert.{Inserted, lowest, swept}
+use Rattle.rules.specs.Insert.{Inserted, lowest}
+use Rattle.rules.specs.Rest.{restOfSweep}
 use Rattle.rules.specs.Calls.{queueOf}
 use Rattle.buffers.specs.Format.{linksIn, counterIn, countOf, markOf, many, bookOf, bufferOf, buffersOf, lentOf}
 use Rattle.buffers.specs.Post.{Inside, Unused}
@@ -36,7 +36,7 @@ pub record CanSweep (ws : List ℕ) (i : ℕ) (work : List ℕ) : Type 0 where
   pub counted : 1 ≤ counterIn ws i
   pub unspent : counterIn ws i ≤ k i
   pub empty : bufferOf ws (numberOfS i (counterIn ws i)) ≡ []
-  pub fits : swept i (queueOf (lentOf ws)) .fits ≡ true
+  pub fits : restOfSweep i (queueOf (lentOf ws)) ≤ s i
 
 pub record CanPack (ws : List ℕ) (links : ℕ) (work : List ℕ) : Type 0 where
   pub moves : CanMove ws work
