@@ -3,6 +3,7 @@
 
 mod joins;
 
+use crate::frames::ANSWERS;
 use crate::tally::name;
 use reference::array::built::{random_marks, random_starts};
 use reference::array::calls::{expected, Call, Expected};
@@ -221,8 +222,11 @@ unsafe extern "C" fn gorgalhut_tally_add(
     made: u64,
     packed: bool,
 ) -> bool {
-    let known = call <= 5 && answer <= 10;
-    if known && answer == 0 && call > 0 {
+    let means = ANSWERS.contains(&answer);
+    let between = !means && answer <= ANSWERS[ANSWERS.len() - 1];
+    let known = call <= 5 && (means || fault("tally-knows-between") && between);
+    let done = answer == 0 || fault("tally-adds-between") && between;
+    if (1..=5).contains(&call) && done {
         let one = |yes| u64::from(yes);
         *inserts = (*inserts).saturating_add(one(call == 1));
         *takes = (*takes).saturating_add(one(call == 2));

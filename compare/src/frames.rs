@@ -11,6 +11,9 @@ use reference::rng::Rng;
 /// What a reader or writer refuses with.
 const NOT_A_FRAME: u8 = 10;
 
+/// The numbers that answers have; any other byte means nothing.
+pub const ANSWERS: [u8; 10] = [0, 1, 2, 3, 4, 5, 6, 7, 9, 10];
+
 pub fn compare(options: &Options, tally: &mut Tally) -> Result<(), String> {
     let mut rng = Rng::new(options.seed);
     let mut bytes = Lent::new(options.exact);
@@ -208,7 +211,7 @@ fn compare_tally(rng: &mut Rng, day: &mut [u64; 4]) -> Result<(), String> {
         _ => 0,
     };
     let (steps, packed) = (rng.word() >> rng.below(64), rng.one_in(2));
-    let known = call <= 5 && answer <= 10;
+    let known = call <= 5 && ANSWERS.contains(&answer);
     let more = if known && answer == 0 {
         added(call, steps, packed)
     } else {

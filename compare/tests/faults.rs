@@ -284,6 +284,8 @@ fn abuse_and_frames() {
         ("frames", "line-behind", "expected Line"),
         ("frames", "line-ended", "expected ["),
         ("frames", "tally-wraps", "tally "),
+        ("frames", "tally-adds-between", "tally "),
+        ("frames", "tally-knows-between", "tally "),
     ] {
         seen_in_calls(group, fault, report);
     }

@@ -105,15 +105,13 @@ impl Machine {
         self.queue.as_mut().ok_or(4)
     }
 
-    /// "then insert 3, 4, 7, 5, 8".
+    /// "then insert 3, 4, 7, 5".
     fn check_insert(&self, entry: u64) -> Result<(), u8> {
         let queue = self.lent_queue()?;
         refuse(3, self.work_words < most_held(queue.links))?;
         refuse(4, !book_sound(queue))?;
         refuse(7, door(entry) > 2)?;
-        refuse(5, queue.held() == most_held(queue.links))?;
-        let after = movement::after_insert(queue);
-        refuse(8, movement::rest_too_long(queue, after))
+        refuse(5, queue.held() == most_held(queue.links))
     }
 
     pub fn insert(&mut self, entry: u64) -> Outcome {

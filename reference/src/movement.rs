@@ -2,7 +2,7 @@
 //! merge steps it made: "Joins and layings are no merge steps."
 
 use crate::joining::{self, smaller_head};
-use crate::links::{link, most_held, INSERTION_SLOTS};
+use crate::links::{link, INSERTION_SLOTS};
 use crate::queue::{a, inputs, Buffer, Place, Queue};
 
 /// "Fill a merger: while its output is not full, fill an empty first input if a
@@ -131,30 +131,6 @@ pub fn after_insert(queue: &Queue) -> After {
     match (1..=queue.links).find(|&i| queue.c[i - 1] <= link(i).k) {
         Some(i) => After::SweepTo(i),
         None => After::Pack,
-    }
-}
-
-/// "The rest goes into S(i, c(i))", or is laid out by a packing: its length, told
-/// before the entry is placed.
-pub fn rest(queue: &Queue, after: After) -> usize {
-    match after {
-        After::Nothing => 0,
-        After::SweepTo(i) => {
-            let emptied: usize = (1..i).map(|lower| queue.held_in_link(lower)).sum();
-            let noted: usize = (1..i).map(|lower| queue.buffer(a(lower)).len()).sum();
-            // From A(i) downwards as much is refilled as is read.
-            queue.insertion.len() + 1 + emptied - noted
-        }
-        After::Pack => queue.held() + 1,
-    }
-}
-
-/// "rest of a sweep longer than s(i), or of a packing longer than H".
-pub fn rest_too_long(queue: &Queue, after: After) -> bool {
-    match after {
-        After::Nothing => false,
-        After::SweepTo(i) => rest(queue, after) > link(i).s,
-        After::Pack => rest(queue, after) > most_held(queue.links),
     }
 }
 

@@ -10,6 +10,7 @@ use reference::links::{array_words, most_held};
 use reference::machine::{Machine, Outcome};
 use reference::queue::{Buffer, Queue};
 use reference::rng::Rng;
+use std::collections::BTreeMap;
 
 const MARK: u64 = 1 << 16;
 
@@ -38,8 +39,8 @@ fn answers(words: &[u64], work_words: usize, entry: u64) -> [u8; 5] {
     })
 }
 
-/// "all others: 2 (296 words), 4 (link number), 2 (its L), then insert 3, 4, 7, 5,
-/// 8; take and look 4, 6; held 4; audit 4, 9."
+/// "all others: 2 (296 words), 4 (link number), 2 (its L), then insert 3, 4, 7, 5;
+/// take and look 4, 6; held 4; audit 4, 9."
 #[test]
 fn checks_in_their_order() {
     let bad_door = entry(1) | 3 << 24;
@@ -143,7 +144,7 @@ fn by_machine(machine: &Machine, call: Call) -> (Outcome, Queue) {
 #[test]
 fn as_the_plain_machine() {
     let mut rng = Rng::new(21);
-    let mut answered = [0; 10];
+    let mut answered = BTreeMap::<u8, usize>::new();
     for turn in 0..1_500 {
         let links = if turn % 60 == 0 { 4 } else { 1 + turn % 3 };
         let mut queue = random_sound_queue(&mut rng, links);
@@ -168,12 +169,12 @@ fn as_the_plain_machine() {
             let found = expected(&words, call);
             assert_eq!(found.outcome, outcome, "{call:?} {queue:?}");
             assert_eq!(found.after.as_ref().unwrap_or(&queue), &after);
-            answered[usize::from(outcome.answer)] += 1;
+            *answered.entry(outcome.answer).or_default() += 1;
         }
     }
-    // 2 and 4 do not come from sound arrays, 8 comes from none.
-    let never: Vec<usize> = (0..10).filter(|&n| answered[n] < 20).collect();
-    assert_eq!(never, [2, 4, 8], "{answered:?}");
+    // 2 and 4 do not come from sound arrays.
+    assert!(answered.keys().eq(&[0, 1, 3, 5, 6, 7, 9]), "{answered:?}");
+    assert!(answered.values().all(|&many| many >= 20), "{answered:?}");
 }
 
 /// Every insert of a run of calls, laid anew between them, packings included.

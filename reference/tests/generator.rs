@@ -88,7 +88,7 @@ fn sessions_sweep_to_every_link_and_pack() {
     }
 }
 
-/// 0 to 7 and 10; 8 and 9 are out of reach of frames, 3 needs a short work area.
+/// 0 to 7 and 10; 9 is out of reach of frames, 3 needs a short work area.
 #[test]
 fn sessions_meet_every_answer() {
     let mut by_default = BTreeSet::new();

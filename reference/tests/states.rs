@@ -6,8 +6,8 @@ mod common;
 use common::{around, entry, machine, queue, random_sound_queue, set_up, sorted_entries};
 use reference::links::link;
 use reference::machine::{Machine, Outcome};
-use reference::movement::{after_insert, fill, path, rest, rest_too_long, After};
-use reference::queue::{book_sound, mark_allowed, order_kept, Buffer, Place, Queue};
+use reference::movement::{after_insert, fill, path, After};
+use reference::queue::{a, book_sound, mark_allowed, order_kept, Buffer, Place, Queue};
 use reference::rng::Rng;
 
 fn buffer(entries: &[u64]) -> Buffer {
@@ -148,7 +148,7 @@ fn answers(machine: &Machine, entry: u64) -> [u8; 5] {
 }
 
 /// "all others: 2 (296 words), 4 (link number), 2 (its L), then insert 3, 4, 7,
-/// 5, 8; take and look 4, 6; held 4; audit 4, 9."
+/// 5; take and look 4, 6; held 4; audit 4, 9."
 #[test]
 fn checks_in_their_order() {
     let good = entry(1);
@@ -322,23 +322,12 @@ fn packing_with_few_entries() {
     assert_eq!(queue.held(), 8);
 }
 
-/// Refusal 8 is out of reach of a sound book; the rule itself is seen here.
-#[test]
-fn rests_that_are_too_long() {
-    let mut queue = Queue::set_up(2);
-    queue.c = vec![3, 1];
-    queue.insertion = ones(7);
-    queue.buffers[0] = vec![ones(8), ones(8), ones(8), ones(0)];
-    assert_eq!(after_insert(&queue), After::SweepTo(2));
-    assert_eq!(rest(&queue, After::SweepTo(2)), 24);
-    assert!(!rest_too_long(&queue, After::SweepTo(2)));
-    queue.buffers[0][3] = ones(1);
-    assert_eq!(rest(&queue, After::SweepTo(2)), 25);
-    assert!(rest_too_long(&queue, After::SweepTo(2)));
-    let mut queue = one_link(3, [7, 8, 0, 0, 0]);
-    assert!(!rest_too_long(&queue, After::Pack));
-    queue.buffers[0][1] = ones(1);
-    assert!(rest_too_long(&queue, After::Pack));
+/// "The rest goes into S(i, c(i))": how many an insert that sweeps to i leaves over.
+fn rest(before: &Queue, i: usize) -> usize {
+    let emptied: usize = (1..i).map(|lower| before.held_in_link(lower)).sum();
+    let noted: usize = (1..i).map(|lower| before.buffer(a(lower)).len()).sum();
+    // From A(i) downwards as much is refilled as is read.
+    before.insertion.len() + 1 + emptied - noted
 }
 
 /// What an accepted insert into any sound state must leave behind.
@@ -360,7 +349,7 @@ fn check_insert(before: &Queue, machine: &mut Machine, entry: u64) -> Outcome {
         for &place in noted {
             assert_eq!(queue.buffer(place).len(), before.buffer(place).len());
         }
-        assert_eq!(queue.buffer(*destination).len(), rest(before, after));
+        assert_eq!(queue.buffer(*destination).len(), rest(before, i));
         assert_eq!(queue.c[i - 1], before.c[i - 1] + 1);
         assert!(queue.c[..i - 1].iter().all(|&c| c == 1));
         assert_eq!(queue.c[i..], before.c[i..]);
