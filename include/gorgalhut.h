@@ -23,10 +23,10 @@
 #include <stdint.h>
 
 /* The version of header and library; CHANGELOG.md says what each changed. */
-#define GORGALHUT_VERSION "0.2.1"
+#define GORGALHUT_VERSION "0.3.0"
 #define GORGALHUT_VERSION_MAJOR 0
-#define GORGALHUT_VERSION_MINOR 2
-#define GORGALHUT_VERSION_PATCH 1
+#define GORGALHUT_VERSION_MINOR 3
+#define GORGALHUT_VERSION_PATCH 0
 
 #ifdef __cplusplus
 extern "C" {
@@ -43,7 +43,7 @@ enum gorgalhut_answer {
     GORGALHUT_FULL = 5,          /* insert: as many entries held as its links can hold */
     GORGALHUT_NONE_HELD = 6,     /* take, look: no entry held */
     GORGALHUT_DOOR_ABOVE = 7,    /* insert: door above 2 */
-    GORGALHUT_NO_PLACE = 8,      /* insert: no place for the rest of a sweep or packing (proved never to come) */
+    /* 8 is not used */
     GORGALHUT_ORDER_BROKEN = 9,  /* audit: book sound, entries out of order */
     GORGALHUT_NOT_A_FRAME = 10   /* frames: not a frame, not an order's numbers, or too short a buffer */
 };
@@ -102,7 +102,7 @@ static inline uint32_t gorgalhut_entry_command(uint64_t entry) {
 /* Makes an empty queue of so many links in the array, whatever stood there; answers 0, 1 or 2. */
 uint8_t gorgalhut_setup(uint64_t *array, size_t array_words, uint64_t links, uint64_t *word, uint64_t *steps);
 
-/* Puts an entry in; *packed says whether everything was packed anew; answers 0, 2, 3, 4, 5, 7 or 8. What stands in
+/* Puts an entry in; *packed says whether everything was packed anew; answers 0, 2, 3, 4, 5 or 7. What stands in
  * the work area need not be kept between calls, and is not cleared. */
 uint8_t gorgalhut_insert(uint64_t *array, size_t array_words, uint64_t *work, size_t work_words, uint64_t entry,
                          uint64_t *word, uint64_t *steps, bool *packed);
@@ -127,7 +127,7 @@ bool gorgalhut_book_sound(const uint64_t *array, size_t array_words);
 
 /* Adds a call (gorgalhut_call) with its answer, its merge steps and whether it packed: an accepted insert counts in
  * *inserts, an accepted take in *takes; setup and refused calls add nothing. False, and nothing added, if call is
- * above 5 or answer above 10. */
+ * above 5 or no answer has the number. */
 bool gorgalhut_tally_add(uint64_t *inserts, uint64_t *takes, uint64_t *steps, uint64_t *packings, uint8_t call,
                          uint8_t answer, uint64_t call_steps, bool packed);
 

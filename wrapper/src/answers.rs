@@ -5,33 +5,32 @@ use core::fmt::{self, Display, Formatter};
 
 /// Why nothing was done. A refusal changes nothing that was lent.
 #[derive(Clone, Copy, Debug, PartialEq, Eq, Hash)]
+#[repr(u8)]
 pub enum Refusal {
     /// 1: links not 1 to 4.
-    NoSuchLinks,
+    NoSuchLinks = 1,
     /// 2: the array is shorter than 296 words, or than its links need.
-    ArrayShort,
+    ArrayShort = 2,
     /// 3: the work area is shorter than its links need.
-    WorkShort,
+    WorkShort = 3,
     /// 4: the array's book breaks a book rule: no setup yet, or damaged.
-    BookBroken,
+    BookBroken = 4,
     /// 5: as many entries are held as its links can hold.
-    Full,
+    Full = 5,
     /// 6: no entry is held.
-    NoneHeld,
+    NoneHeld = 6,
     /// 7: the entry's door byte is above 2.
-    DoorAbove,
-    /// 8: the rest of a sweep or a packing has no place; proved never to come.
-    NoPlace,
+    DoorAbove = 7,
     /// 9: the book is sound, but entries are out of order.
-    OrderBroken,
+    OrderBroken = 9,
     /// 10: not a frame, not an order that can be written, or too short a buffer.
-    NotAFrame,
+    NotAFrame = 10,
 }
 
 /// What a call comes to.
 pub type Result<T> = core::result::Result<T, Refusal>;
 
-const ALL: [Refusal; 10] = [
+const ALL: [Refusal; 9] = [
     Refusal::NoSuchLinks,
     Refusal::ArrayShort,
     Refusal::WorkShort,
@@ -39,21 +38,19 @@ const ALL: [Refusal; 10] = [
     Refusal::Full,
     Refusal::NoneHeld,
     Refusal::DoorAbove,
-    Refusal::NoPlace,
     Refusal::OrderBroken,
     Refusal::NotAFrame,
 ];
 
 impl Refusal {
-    /// The number on paper, 1 to 10.
+    /// The number on paper.
     pub fn number(self) -> u8 {
-        1 + self as u8
+        self as u8
     }
 
-    /// The refusal of a number; none for 0, which is done, and for numbers above 10.
+    /// The refusal of a number; none for 0, which is done, and for numbers that no refusal has.
     pub fn of_number(number: u8) -> Option<Refusal> {
-        let at = usize::from(number).checked_sub(1)?;
-        ALL.get(at).copied()
+        ALL.into_iter().find(|refusal| refusal.number() == number)
     }
 }
 
@@ -61,7 +58,7 @@ impl Refusal {
 pub(crate) fn settle(number: u8) -> Result<()> {
     match number {
         0 => Ok(()),
-        _ => Err(Refusal::of_number(number).expect("the library answers 0 to 10")),
+        _ => Err(Refusal::of_number(number).expect("the library answers 0 or a refusal's number")),
     }
 }
 
@@ -83,7 +80,6 @@ impl Display for Refusal {
             Refusal::Full => "the queue is full",
             Refusal::NoneHeld => "no entry is held",
             Refusal::DoorAbove => "the door is above 2",
-            Refusal::NoPlace => "the rest of a sweep or packing has no place",
             Refusal::OrderBroken => "entries are out of order",
             Refusal::NotAFrame => "not a frame",
         })

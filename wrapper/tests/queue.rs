@@ -191,11 +191,13 @@ fn what_an_entry_is_made_of() {
 
 #[test]
 fn every_refusal_has_its_number() {
-    for number in 1..=10 {
+    let known = |&number: &u8| Refusal::of_number(number).is_some();
+    let numbers: Vec<u8> = (0..=u8::MAX).filter(known).collect();
+    assert_eq!(numbers, [1, 2, 3, 4, 5, 6, 7, 9, 10]);
+    for number in numbers {
         assert_eq!(Refusal::of_number(number).unwrap().number(), number);
     }
-    assert_eq!(Refusal::of_number(0), None);
-    assert_eq!(Refusal::of_number(11), None);
+    assert_eq!(Refusal::OrderBroken.number(), 9);
     assert_eq!(Refusal::NotAFrame.number(), 10);
     assert_eq!(Refusal::Full.to_string(), "the queue is full");
 }
