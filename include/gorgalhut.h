@@ -127,7 +127,7 @@ bool gorgalhut_book_sound(const uint64_t *array, size_t array_words);
 
 /* Adds a call (gorgalhut_call) with its answer, its merge steps and whether it packed: an accepted insert counts in
  * *inserts, an accepted take in *takes; setup and refused calls add nothing. False, and nothing added, if call is
- * above 5 or no answer has the number. */
+ * above 5, or answer is none of gorgalhut_answer's numbers. */
 bool gorgalhut_tally_add(uint64_t *inserts, uint64_t *takes, uint64_t *steps, uint64_t *packings, uint8_t call,
                          uint8_t answer, uint64_t call_steps, bool packed);
 

@@ -39,8 +39,8 @@ fn answers(words: &[u64], work_words: usize, entry: u64) -> [u8; 5] {
     })
 }
 
-/// "all others: 2 (296 words), 4 (link number), 2 (its L), then insert 3, 4, 7, 5;
-/// take and look 4, 6; held 4; audit 4, 9."
+/// "all others: 2 (296 words), 4 (link number), 2 (its L), then insert 3, 4, 7, 5
+/// [..]; take and look 4, 6; held 4; audit 4, 9."
 #[test]
 fn checks_in_their_order() {
     let bad_door = entry(1) | 3 << 24;

@@ -148,7 +148,7 @@ fn answers(machine: &Machine, entry: u64) -> [u8; 5] {
 }
 
 /// "all others: 2 (296 words), 4 (link number), 2 (its L), then insert 3, 4, 7,
-/// 5; take and look 4, 6; held 4; audit 4, 9."
+/// 5 [..]; take and look 4, 6; held 4; audit 4, 9."
 #[test]
 fn checks_in_their_order() {
     let good = entry(1);
@@ -350,6 +350,7 @@ fn check_insert(before: &Queue, machine: &mut Machine, entry: u64) -> Outcome {
             assert_eq!(queue.buffer(place).len(), before.buffer(place).len());
         }
         assert_eq!(queue.buffer(*destination).len(), rest(before, i));
+        assert!(rest(before, i) <= link(i).s, "{before:?}");
         assert_eq!(queue.c[i - 1], before.c[i - 1] + 1);
         assert!(queue.c[..i - 1].iter().all(|&c| c == 1));
         assert_eq!(queue.c[i..], before.c[i..]);

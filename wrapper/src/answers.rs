@@ -5,7 +5,6 @@ use core::fmt::{self, Display, Formatter};
 
 /// Why nothing was done. A refusal changes nothing that was lent.
 #[derive(Clone, Copy, Debug, PartialEq, Eq, Hash)]
-#[repr(u8)]
 pub enum Refusal {
     /// 1: links not 1 to 4.
     NoSuchLinks = 1,

@@ -1,4 +1,4 @@
--- The three demands and the day tally, side by side. What a call, a history and its sums are: specs/Histories.antt. Each function's contract is a call that was made: MadeLaws.
+-- The three demands, the day tally and what document 02 asks besides, side by side. What a call, a history and its sums are: specs/Histories.antt. Each function's contract is a call that was made: MadeLaws.
 use Prim.Native.Nat.{ℕ, _+_, _*_, _/_, _^_, _≤_, _<_}
 use mathlib.Core.Path.{_≡_, refl}
 use mathlib.Core.Logic.{_⊎_, _≢_}
@@ -16,7 +16,7 @@ use Rattle.rules.specs.Rest.{HasPlace}
 use Rattle.rules.specs.Book.{sound}
 use Rattle.rules.specs.Calls.{queueOf}
 use Rattle.rules.specs.Examples.{insertOf, takeIt, lookAt, heldNow, auditIt, call}
-use Rattle.rules.proofs.AnswerLaws.{eight-not-given}
+use Rattle.rules.proofs.AnswerLaws as numbers
 use Rattle.rules.proofs.EntryOrder.{Earlier}
 use Rattle.rules.proofs.History.{packings-bound}
 use Rattle.buffers.specs.Format.{linksIn, bookOf, lentOf}
@@ -95,9 +95,9 @@ outcomes-agree = made-agree
 pub never-read : (ws vs ws′ vs′ : List ℕ) (c d : Call) → SameUpTo ws vs → c .order ≡ d .order → c .work ≡ d .work → Made ws c ws′ → Made vs d vs′ → MadeSame ws c d ws′ vs′
 never-read = made-unread
 
--- ---- what a sweep or a packing leaves over has its place
+-- ---- document 02, R-10: what a sweep or a packing leaves over has its place, and answer 8 has gone
 
--- "no array with a sound book leads there": on no array whose book is sound and that is not full does a sweep leave more than s(i) for its destination, nor a packing more than H, whatever the entry put in
+-- "no array with a sound book leads there": on an array long enough for its links, whose book is sound and that holds fewer than H, no sweep leaves more than s(i) entries for S(i, c(i)), and no packing lays more than H, whatever entry is put in
 pub rest-has-its-place : (ws : List ℕ) → words (linksIn ws) ≤ length ws → sound (bookOf ws) ≡ true → held (queueOf (lentOf ws)) < most (linksIn ws)
     → (entry : ℕ) → HasPlace (entered entry (queueOf (lentOf ws)))
 rest-has-its-place = sound-has-place
@@ -108,11 +108,11 @@ each-insert-has-place = insert-has-place
 
 -- "Eight is not given to anything else."
 pub eight-given-to-none : (r : Answer) → numberOf r ≢ 8
-eight-given-to-none = eight-not-given
+eight-given-to-none = numbers.eight-given-to-none
 
 -- and the tally takes it for a number that means nothing
 pub eight-adds-nothing : (tally : Tally) (call steps : ℕ) (packed : Bool) → (numbered.named call 8 ≡ false) × (numbered.tallied tally call 8 steps packed ≡ tally)
-eight-adds-nothing = means-nothing 8 eight-not-given
+eight-adds-nothing = means-nothing 8 eight-given-to-none
 
 -- ---- demand 2: a call c in a history, after the calls `earlier` and before the calls `later`
 

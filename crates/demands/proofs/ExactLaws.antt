@@ -60,7 +60,7 @@ unless-answers failing q accepted done = go (isDone failing) refl
     go true e = done ∙ sym (is-done failing e)
     go false e = refl
 
--- "Checks run: setup 1, 2; all others: 2 (296 words), 4 (link number), 2 (its L), then insert 3, 4, 7, 5, 8; take and look 4, 6; held 4; audit 4, 9."
+-- "Checks run: setup 1, 2; all others: 2 (296 words), 4 (link number), 2 (its L), then insert 3, 4, 7, 5 [..]; take and look 4, 6; held 4; audit 4, 9."
 pub checksOf : ℕ → Order → Lent → List Check
 checksOf work (setupOf l) a = (isLinkNumber l else NoSuchLinks) ∷ (leb (words l) (a .length) else ArrayShort) ∷ []
 checksOf work (insertOf entry) a = insertChecks work entry a

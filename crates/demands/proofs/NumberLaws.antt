@@ -1,4 +1,4 @@
--- Numbers 1 to 9, one theorem each: a call c, made on any words ws, answers the number exactly when the document says.
+-- One theorem for each number that a call is refused with: a call c, made on any words ws, answers it exactly when the document says.
 use Prim.Native.Nat.{ℕ, _≤_, _<_}
 use mathlib.Core.Path.{_≡_, refl, sym, subst}
 use mathlib.Core.Logic.{_⊎_, inl, inr}

@@ -3,6 +3,7 @@ use Prim.Native.Nat.{ℕ, _≤_, _<_}
 use mathlib.Core.Path.{_≡_, sym, subst}
 use mathlib.Core.Bool.{true}
 use mathlib.Core.List.{List}
+use native.Mathlib.Omega.{arith}
 use lib.Dec.{T}
 use lib.ListN.{length}
 use Rattle.rules.specs.declared.Answer.the-variants.{Done}
@@ -12,7 +13,7 @@ use Rattle.rules.specs.Insert.{entered}
 use Rattle.rules.specs.Rest.{HasPlace}
 use Rattle.rules.specs.Book.{sound}
 use Rattle.rules.specs.Calls.{queueOf}
-use Rattle.rules.specs.Examples.{Order, insertOf}
+use Rattle.rules.specs.Examples.{insertOf}
 use Rattle.rules.proofs.BookLaws.{sound-says}
 use Rattle.rules.proofs.InsertLaws.{now-has-place}
 use Rattle.buffers.specs.Format.{linksIn, bookOf, lentOf}
@@ -29,7 +30,7 @@ unfolding queueOf lentOf bookOf
 sound-has-place ws long right less entry =
     let inside = sound-inside ws right long in
     let q = queueOf (lentOf ws) in
-    now-has-place entry q (shaped ws inside) (sound-says (bookOf ws) q (describes ws inside) (subst T (sym right) tt)) less
+    now-has-place entry q (shaped ws inside) (sound-says (bookOf ws) q (describes ws inside) (subst T (sym right) tt)) (omega (arith, less))
 
 -- which is what an insert that is done finds
 at-done : (ws : List ℕ) (work : ℕ) {entry : ℕ} → Answers work (lentOf ws) (insertOf entry) Done → HasPlace (entered entry (queueOf (lentOf ws)))

@@ -1,6 +1,8 @@
 -- Calls and answers by their numbers, for the day tally.
-use Prim.Native.Nat.{ℕ}
+use Prim.Native.Nat.{ℕ, zero, suc}
+use mathlib.Core.Path.{_≡_, refl}
 use mathlib.Core.Bool.{Bool, cond}
+use mathlib.Core.List.{List, [], _∷_, _++_}
 use lib.Dec.{eqb, leb}
 use Rattle.rules.specs.Tests.{_and_}
 use Rattle.rules.specs.Answers.{numberOf, answerOf}
@@ -27,9 +29,20 @@ callNumber Look = 3
 callNumber Held = 4
 callNumber Audit = 5
 
--- a call and an answer have these numbers
+-- a call and an answer have these numbers: the answer that a number reads as has that very number
 abbrev pub named : ℕ → ℕ → Bool
 named call answer = leb call 5 and eqb (numberOf (answerOf answer)) answer
+
+-- the numbers below n that answers have
+unfoldable pub answersBelow : ℕ → List ℕ
+unfolding answerOf
+answersBelow zero = []
+answersBelow (suc n) = answersBelow n ++ cond (named 1 n) (n ∷ []) []
+
+-- computed: of all bytes these
+pub namedBytes : answersBelow 256 ≡ 0 ∷ 1 ∷ 2 ∷ 3 ∷ 4 ∷ 5 ∷ 6 ∷ 7 ∷ 9 ∷ 10 ∷ []
+unfolding answersBelow
+namedBytes = refl
 
 -- the tally after a call; numbers that name none add nothing
 unfoldable pub tallied : Tally → ℕ → ℕ → ℕ → Bool → Tally

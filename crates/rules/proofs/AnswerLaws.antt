@@ -35,15 +35,7 @@ answer-few DoorAbove = omega arith
 answer-few OrderBroken = omega arith
 answer-few NotAFrame = omega arith
 
--- "Eight is not given to anything else."
-pub eight-not-given : (a : Answer) → numberOf a ≢ 8
-eight-not-given Done same = omega arith
-eight-not-given NoSuchLinks same = omega arith
-eight-not-given ArrayShort same = omega arith
-eight-not-given WorkShort same = omega arith
-eight-not-given BookBroken same = omega arith
-eight-not-given Full same = omega arith
-eight-not-given NoneHeld same = omega arith
-eight-not-given DoorAbove same = omega arith
-eight-not-given OrderBroken same = omega arith
-eight-not-given NotAFrame same = omega arith
+-- "Eight is not given to anything else.": it reads as an answer that has another number
+pub eight-given-to-none : (a : Answer) → numberOf a ≢ 8
+unfolding answerOf
+eight-given-to-none a same = omega (arith, same, ap numberOf (answer-again a), ap (λ n. numberOf (answerOf n)) same)

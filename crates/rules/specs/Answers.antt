@@ -1,6 +1,6 @@
 -- The answers, and the numbers that come back.
 use Prim.Native.Nat.{ℕ}
-use mathlib.Core.Bool.{Bool, true, false, cond}
+use mathlib.Core.Bool.{Bool, cond}
 use lib.Dec.{eqb}
 use Rattle.rules.specs.declared.Answer.{Answer}
 use Rattle.rules.specs.declared.Answer.the-variants.{Done, NoSuchLinks, ArrayShort, WorkShort, BookBroken, Full, NoneHeld, DoorAbove, OrderBroken, NotAFrame}
@@ -22,7 +22,7 @@ numberOf NotAFrame = 10
 unfoldable pub isDone : Answer → Bool
 isDone answer = eqb (numberOf answer) 0
 
--- and the answer that has a number; a number that none has reads as the last one
+-- and the answer that has a number; one that no answer has reads as NotAFrame
 unfoldable pub answerOf : ℕ → Answer
 answerOf n =
     cond (eqb n 0) Done

@@ -1,19 +1,18 @@
 -- The six calls on a lent array, with every refusal in the order in which checks run.
-use Prim.Native.Nat.{ℕ, zero, suc}
+use Prim.Native.Nat.{ℕ}
 use mathlib.Core.Bool.{Bool, true, false}
 use mathlib.Core.List.{List, [], _∷_}
 use lib.ListN.{length}
 use lib.Dec.{leb, ltb}
 use Rattle.rules.specs.declared.Answer.{Answer}
-use Rattle.rules.specs.declared.Answer.the-variants.{Done, NoSuchLinks, ArrayShort, WorkShort, BookBroken, Full, NoneHeld, DoorAbove, OrderBroken, NotAFrame}
+use Rattle.rules.specs.declared.Answer.the-variants.{Done, NoSuchLinks, ArrayShort, WorkShort, BookBroken, Full, NoneHeld, DoorAbove, OrderBroken}
 use Rattle.rules.specs.Answers.{isDone}
 use Rattle.rules.specs.Entries.{door}
 use Rattle.rules.specs.Links.{most, words}
 use Rattle.rules.specs.Tree.{Buffers, treeOf}
-use Rattle.rules.specs.Fill.{Filled}
-use Rattle.rules.specs.Take.{Taken, ready, takeOne}
+use Rattle.rules.specs.Take.{ready, takeOne}
 use Rattle.rules.specs.Queue.{Queue, keyOf, held, fresh}
-use Rattle.rules.specs.Insert.{Inserted, inserted}
+use Rattle.rules.specs.Insert.{inserted}
 use Rattle.rules.specs.Order.{inOrder}
 use Rattle.rules.specs.Book.{Book, isLinkNumber, sound, plainBook}
 
@@ -74,7 +73,7 @@ setup links a =
 
 -- "then insert 3, 4, 7, 5"
 unfoldable pub insertChecks : ℕ → ℕ → Lent → List Check
-unfolding arrayChecks most sound door held inserted queueOf
+unfolding arrayChecks most sound door held queueOf
 insertChecks work entry a =
     let q = queueOf a in
     arrayChecks a (

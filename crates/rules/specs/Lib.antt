@@ -9,9 +9,9 @@ pub mod Take
 pub mod Queue
 pub mod Sweep
 pub mod Insert
-pub mod Rest
 pub mod Order
 pub mod Book
+pub mod Rest
 pub mod Calls
 pub mod Examples
 pub mod Sessions

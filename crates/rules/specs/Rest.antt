@@ -1,21 +1,25 @@
 -- What a sweep and a packing leave over, and the place that they have for it.
 use Prim.Native.Nat.{ℕ, _≤_}
 use mathlib.Core.Path.{_≡_, refl}
-use mathlib.Core.List.{List, [], _∷_}
+use mathlib.Core.Bool.{true, cond}
+use mathlib.Core.List.{List, [], _∷_, map}
 use lib.ListN.{length, replicate}
+use lib.Dec.{eqb, ltb}
+use Rattle.rules.specs.Tests.{_and_}
 use Rattle.rules.specs.Links.{s, k, most}
-use Rattle.rules.specs.Tree.{Buffers, treeOf}
+use Rattle.rules.specs.Tree.{treeOf}
 use Rattle.rules.specs.Take.{takeAll}
-use Rattle.rules.specs.Queue.{Queue, keyOf, counter}
+use Rattle.rules.specs.Queue.{Queue, keyOf, counter, held}
 use Rattle.rules.specs.Sweep.{sweepTo}
 use Rattle.rules.specs.Insert.{entered}
+use Rattle.rules.specs.Book.{sound, plainBook}
 
 -- "The rest goes into S(i, c(i))": how many entries a sweep to i leaves for it
 unfoldable pub restOfSweep : ℕ → Queue → ℕ
 unfolding sweepTo keyOf counter
 restOfSweep i q = sweepTo (keyOf q) i (counter q i) (q .buffers) .rest
 
--- "take everything out by repeated takes, then lay it in order": how many entries a packing lays
+-- "take everything out by repeated takes, then lay it in order": how many entries a packing has to lay
 unfoldable pub restOfPacking : Queue → ℕ
 unfolding takeAll treeOf keyOf
 restOfPacking q = length (takeAll (keyOf q) (treeOf (q .links)) (q .buffers) .out)
@@ -25,27 +29,40 @@ pub record HasPlace (q : Queue) : Type 0 where
   pub of-sweep : (i : ℕ) → 1 ≤ i → i ≤ q .links → counter q i ≤ k i → restOfSweep i q ≤ s i
   pub of-packing : restOfPacking q ≤ most (q .links)
 
--- ---- computed: each place can be filled to the last slot
+-- ---- computed: on sound books a place is filled to its last slot
 
 -- so many links, their counters, and so many equal entries in each buffer
 unfoldable pub filled : ℕ → List ℕ → List ℕ → Queue
-filled links counters counts = record { links = links; counters = counters; buffers = runs counts }
-  where
-    runs : List ℕ → Buffers
-    runs [] = []
-    runs (n ∷ ns) = replicate n 5 ∷ runs ns
+filled links counters counts = record { links = links; counters = counters; buffers = map (λ n. replicate n 5) counts }
 
--- S(1,1) has 8 slots
-pub firstFilled : restOfSweep 1 (entered 5 (filled 1 (1 ∷ []) (7 ∷ 0 ∷ 0 ∷ 0 ∷ 0 ∷ []))) ≡ 8
-unfolding restOfSweep filled entered
-firstFilled = refl
+-- an example: the queue, and what a sweep to the link or, with link 0, a packing has to lay once an entry is put in
+pub record Example : Type 0 where
+  pub queue : Queue
+  pub link : ℕ
+  pub rest : ℕ
 
--- S(2,1) has 24
-pub secondFilled : restOfSweep 2 (entered 5 (filled 2 (3 ∷ 1 ∷ []) (7 ∷ 0 ∷ 0 ∷ 8 ∷ 8 ∷ 0 ∷ 0 ∷ 0 ∷ 0 ∷ 0 ∷ 0 ∷ 0 ∷ 0 ∷ []))) ≡ 24
-unfolding restOfSweep filled entered
-secondFilled = refl
+unfoldable pub restOf : Example → ℕ
+unfolding restOfSweep restOfPacking entered
+restOf x = cond (eqb (x .link) 0) (restOfPacking (entered 5 (x .queue))) (restOfSweep (x .link) (entered 5 (x .queue)))
 
--- "one link holds 16"
-pub packedFull : restOfPacking (entered 5 (filled 1 (3 ∷ []) (7 ∷ 8 ∷ 0 ∷ 0 ∷ 0 ∷ []))) ≡ 16
-unfolding restOfPacking filled entered
-packedFull = refl
+unfoldable pub table : List Example
+unfolding filled
+table =
+    -- S(1,1) has 8 slots
+    record { queue = filled 1 (1 ∷ []) (7 ∷ 0 ∷ 0 ∷ 0 ∷ 0 ∷ []); link = 1; rest = 8 }
+    -- S(2,1) has 24
+    ∷ record { queue = filled 2 (3 ∷ 1 ∷ []) (7 ∷ 0 ∷ 0 ∷ 8 ∷ 8 ∷ 0 ∷ 0 ∷ 0 ∷ 0 ∷ 0 ∷ 0 ∷ 0 ∷ 0 ∷ []); link = 2; rest = 24 }
+    -- what A(1) has stays there
+    ∷ record { queue = filled 2 (3 ∷ 1 ∷ []) (7 ∷ 7 ∷ 0 ∷ 8 ∷ 8 ∷ 0 ∷ 0 ∷ 0 ∷ 0 ∷ 0 ∷ 0 ∷ 0 ∷ 0 ∷ []); link = 2; rest = 24 }
+    -- H is 16 with one link
+    ∷ record { queue = filled 1 (3 ∷ []) (7 ∷ 8 ∷ 0 ∷ 0 ∷ 0 ∷ []); link = 0; rest = 16 }
+    ∷ []
+
+pub examples : map restOf table ≡ map (λ x. x .rest) table
+unfolding restOf table
+examples = refl
+
+-- each has a sound book and is not full
+pub allSound : map (λ x. sound (plainBook (x .queue)) and ltb (held (x .queue)) (most (x .queue .links))) table ≡ replicate (length table) true
+unfolding table sound plainBook held most
+allSound = refl

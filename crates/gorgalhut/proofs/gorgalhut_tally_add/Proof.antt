@@ -13,17 +13,17 @@ use Rattle.gorgalhut.proofs.gorgalhut_tally_add.Tie as tie
 abbrev called : tie.After-updated → tie.After-call-of
 called c = c .before
 
-abbrev known : tie.After-updated → tie.Then2
-known c = called c .before .before .before .before .before
+abbrev answer-known : tie.After-updated → tie.Then2
+answer-known c = called c .before .before .before .before .before
 
 abbrev read : tie.After-number-of → tie.After-answer-of
 read c = c .before
 
-abbrev few : tie.After-number-of → tie.Then1
-few c = read c .before
+abbrev call-known : tie.After-number-of → tie.Then1
+call-known c = read c .before
 
 abbrev start : tie.After-number-of → tie.Start
-start c = few c .before
+start c = call-known c .before
 
 -- the number of the answer that is meant
 meant : (c : tie.After-number-of) → c .number-of .result ≡ numberOf (answerOf (start c .args .answer))
@@ -43,17 +43,17 @@ updated-requires c κs = search needs
 
 returns : tie.Need-returns
 returns c =
-    let at = known c .before in
+    let at = answer-known c .before in
     let answer = start at .args .answer in
-    let has : numberOf (answerOf answer) ≡ answer = omega (arith, meant at, known c .if2 .taken) in
-    let low : start at .args .call ≤ 5 = omega (arith, few at .if1 .taken) in
+    let has : numberOf (answerOf answer) ≡ answer = omega (arith, meant at, answer-known c .if2 .taken) in
+    let low : start at .args .call ≤ 5 = omega (arith, call-known at .if1 .taken) in
     (sym (both-named _ _ low has), tallied-added _ _ _ _ _ _ _ _ low has (called c .call-of .ensures) (read at .answer-of .ensures) (c .updated .ensures))
 
 returns-2 : tie.Need-returns-2
 returns-2 c =
     let at = c .before in
     let answer = start at .args .answer in
-    let none = no-answer (start at .args .call) answer (omega (arith, few at .if1 .taken)) (λ same. omega (arith, meant at, same, c .if2 .left)) in
+    let none = no-answer (start at .args .call) answer (omega (arith, call-known at .if1 .taken)) (λ same. omega (arith, meant at, same, c .if2 .left)) in
     (sym none, sym (tallied-none _ _ _ _ _ none))
 
 returns-3 : tie.Need-returns-3
