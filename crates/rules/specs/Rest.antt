@@ -32,37 +32,37 @@ pub record HasPlace (q : Queue) : Type 0 where
 -- ---- computed: on sound books a place is filled to its last slot
 
 -- so many links, their counters, and so many equal entries in each buffer
-unfoldable pub filled : ℕ → List ℕ → List ℕ → Queue
-filled links counters counts = record { links = links; counters = counters; buffers = map (λ n. replicate n 5) counts }
+unfoldable pub queueWith : ℕ → List ℕ → List ℕ → Queue
+queueWith links counters counts = record { links = links; counters = counters; buffers = map (λ n. replicate n 5) counts }
 
--- an example: the queue, and what a sweep to the link or, with link 0, a packing has to lay once an entry is put in
-pub record Example : Type 0 where
+-- a queue, and what a sweep to the link or, with link 0, a packing has to lay once an entry is put in
+pub record FilledPlace : Type 0 where
   pub queue : Queue
   pub link : ℕ
   pub rest : ℕ
 
-unfoldable pub restOf : Example → ℕ
+unfoldable pub restOf : FilledPlace → ℕ
 unfolding restOfSweep restOfPacking entered
 restOf x = cond (eqb (x .link) 0) (restOfPacking (entered 5 (x .queue))) (restOfSweep (x .link) (entered 5 (x .queue)))
 
-unfoldable pub table : List Example
-unfolding filled
-table =
+unfoldable pub filledPlaces : List FilledPlace
+unfolding queueWith
+filledPlaces =
     -- S(1,1) has 8 slots
-    record { queue = filled 1 (1 ∷ []) (7 ∷ 0 ∷ 0 ∷ 0 ∷ 0 ∷ []); link = 1; rest = 8 }
+    record { queue = queueWith 1 (1 ∷ []) (7 ∷ 0 ∷ 0 ∷ 0 ∷ 0 ∷ []); link = 1; rest = 8 }
     -- S(2,1) has 24
-    ∷ record { queue = filled 2 (3 ∷ 1 ∷ []) (7 ∷ 0 ∷ 0 ∷ 8 ∷ 8 ∷ 0 ∷ 0 ∷ 0 ∷ 0 ∷ 0 ∷ 0 ∷ 0 ∷ 0 ∷ []); link = 2; rest = 24 }
+    ∷ record { queue = queueWith 2 (3 ∷ 1 ∷ []) (7 ∷ 0 ∷ 0 ∷ 8 ∷ 8 ∷ 0 ∷ 0 ∷ 0 ∷ 0 ∷ 0 ∷ 0 ∷ 0 ∷ 0 ∷ []); link = 2; rest = 24 }
     -- what A(1) has stays there
-    ∷ record { queue = filled 2 (3 ∷ 1 ∷ []) (7 ∷ 7 ∷ 0 ∷ 8 ∷ 8 ∷ 0 ∷ 0 ∷ 0 ∷ 0 ∷ 0 ∷ 0 ∷ 0 ∷ 0 ∷ []); link = 2; rest = 24 }
+    ∷ record { queue = queueWith 2 (3 ∷ 1 ∷ []) (7 ∷ 7 ∷ 0 ∷ 8 ∷ 8 ∷ 0 ∷ 0 ∷ 0 ∷ 0 ∷ 0 ∷ 0 ∷ 0 ∷ 0 ∷ []); link = 2; rest = 24 }
     -- H is 16 with one link
-    ∷ record { queue = filled 1 (3 ∷ []) (7 ∷ 8 ∷ 0 ∷ 0 ∷ 0 ∷ []); link = 0; rest = 16 }
+    ∷ record { queue = queueWith 1 (3 ∷ []) (7 ∷ 8 ∷ 0 ∷ 0 ∷ 0 ∷ []); link = 0; rest = 16 }
     ∷ []
 
-pub examples : map restOf table ≡ map (λ x. x .rest) table
-unfolding restOf table
-examples = refl
+pub placesFilled : map restOf filledPlaces ≡ map (λ x. x .rest) filledPlaces
+unfolding restOf filledPlaces
+placesFilled = refl
 
 -- each has a sound book and is not full
-pub allSound : map (λ x. sound (plainBook (x .queue)) and ltb (held (x .queue)) (most (x .queue .links))) table ≡ replicate (length table) true
-unfolding table sound plainBook held most
-allSound = refl
+pub placesSound : map (λ x. sound (plainBook (x .queue)) and ltb (held (x .queue)) (most (x .queue .links))) filledPlaces ≡ replicate (length filledPlaces) true
+unfolding filledPlaces sound plainBook held most
+placesSound = refl
