@@ -79,7 +79,7 @@ module _ (room : ℕ) (q : Queue) (shape : Shaped q) (kept : Kept room q) (eight
   no-more : (m : ℕ) → m ≢ numberOfS i j → length (getD (z .buffers) m []) ≤ length (getD bs m [])
   no-more = swept-no-more (keyOf q) (q .links) i j low high some unspent bs many
 
-  -- S(i, c(i)) was empty, and has the rest
+  -- S(i, c(i)) was empty, and now has the rest
   pub rest-laid : length (getD (z .buffers) (numberOfS i j) []) ≡ z .rest
   rest-laid = let e = ap length (kept .each i low high .unused j (omega arith) unspent) in omega (arith, swept-last (keyOf q) (q .links) i j low high some unspent bs many)
 

@@ -1,10 +1,10 @@
 -- What a sweep and a packing leave over, and the place that they have for it.
 use Prim.Native.Nat.{ℕ, _≤_}
 use mathlib.Core.Path.{_≡_, refl}
-use mathlib.Core.Bool.{true, cond}
+use mathlib.Core.Bool.{true}
 use mathlib.Core.List.{List, [], _∷_, map}
 use lib.ListN.{length, replicate}
-use lib.Dec.{eqb, ltb}
+use lib.Dec.{ltb}
 use Rattle.rules.specs.Tests.{_and_}
 use Rattle.rules.specs.Links.{s, k, most}
 use Rattle.rules.specs.Tree.{treeOf}
@@ -35,31 +35,27 @@ pub record HasPlace (q : Queue) : Type 0 where
 unfoldable pub queueWith : ℕ → List ℕ → List ℕ → Queue
 queueWith links counters counts = record { links = links; counters = counters; buffers = map (λ n. replicate n 5) counts }
 
--- a queue, and what a sweep to the link or, with link 0, a packing has to lay once an entry is put in
+-- a queue, how a sweep or a packing of it is counted once an entry is put in, and the slots of the place that it fills
 pub record FilledPlace : Type 0 where
   pub queue : Queue
-  pub link : ℕ
-  pub rest : ℕ
-
-unfoldable pub restOf : FilledPlace → ℕ
-unfolding restOfSweep restOfPacking entered
-restOf x = cond (eqb (x .link) 0) (restOfPacking (entered 5 (x .queue))) (restOfSweep (x .link) (entered 5 (x .queue)))
+  pub rest : Queue → ℕ
+  pub slots : ℕ
 
 unfoldable pub filledPlaces : List FilledPlace
-unfolding queueWith
+unfolding queueWith restOfSweep restOfPacking
 filledPlaces =
-    -- S(1,1) has 8 slots
-    record { queue = queueWith 1 (1 ∷ []) (7 ∷ 0 ∷ 0 ∷ 0 ∷ 0 ∷ []); link = 1; rest = 8 }
-    -- S(2,1) has 24
-    ∷ record { queue = queueWith 2 (3 ∷ 1 ∷ []) (7 ∷ 0 ∷ 0 ∷ 8 ∷ 8 ∷ 0 ∷ 0 ∷ 0 ∷ 0 ∷ 0 ∷ 0 ∷ 0 ∷ 0 ∷ []); link = 2; rest = 24 }
+    -- S(1,1)
+    record { queue = queueWith 1 (1 ∷ []) (7 ∷ 0 ∷ 0 ∷ 0 ∷ 0 ∷ []); rest = restOfSweep 1; slots = 8 }
+    -- S(2,1)
+    ∷ record { queue = queueWith 2 (3 ∷ 1 ∷ []) (7 ∷ 0 ∷ 0 ∷ 8 ∷ 8 ∷ 0 ∷ 0 ∷ 0 ∷ 0 ∷ 0 ∷ 0 ∷ 0 ∷ 0 ∷ []); rest = restOfSweep 2; slots = 24 }
     -- what A(1) has stays there
-    ∷ record { queue = queueWith 2 (3 ∷ 1 ∷ []) (7 ∷ 7 ∷ 0 ∷ 8 ∷ 8 ∷ 0 ∷ 0 ∷ 0 ∷ 0 ∷ 0 ∷ 0 ∷ 0 ∷ 0 ∷ []); link = 2; rest = 24 }
-    -- H is 16 with one link
-    ∷ record { queue = queueWith 1 (3 ∷ []) (7 ∷ 8 ∷ 0 ∷ 0 ∷ 0 ∷ []); link = 0; rest = 16 }
+    ∷ record { queue = queueWith 2 (3 ∷ 1 ∷ []) (7 ∷ 7 ∷ 0 ∷ 8 ∷ 8 ∷ 0 ∷ 0 ∷ 0 ∷ 0 ∷ 0 ∷ 0 ∷ 0 ∷ 0 ∷ []); rest = restOfSweep 2; slots = 24 }
+    -- S(1,1) and S(1,2) of a packing
+    ∷ record { queue = queueWith 1 (3 ∷ []) (7 ∷ 8 ∷ 0 ∷ 0 ∷ 0 ∷ []); rest = restOfPacking; slots = 16 }
     ∷ []
 
-pub placesFilled : map restOf filledPlaces ≡ map (λ x. x .rest) filledPlaces
-unfolding restOf filledPlaces
+pub placesFilled : map (λ x. x .rest (entered 5 (x .queue))) filledPlaces ≡ map (λ x. x .slots) filledPlaces
+unfolding filledPlaces entered
 placesFilled = refl
 
 -- each has a sound book and is not full
