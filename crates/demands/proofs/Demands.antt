@@ -35,7 +35,7 @@ use Rattle.frames.specs.declared.Written.{Written}
 use Rattle.frames.specs.declared.Written.the-variants.{Bytes}
 use Rattle.demands.specs.Histories.{Call, Made, accepted, MadeSame, History, Sequence, hasSetup, fromSetup, since, links, putIn, takenOut, inserts, takes, packings, steps, times, StillHeld, Smallest}
 use Rattle.demands.specs.Exact.{Answers}
-use Rattle.demands.specs.Bounds.{stepsBound}
+use Rattle.rules.specs.Bounds.{stepsBound}
 use Rattle.demands.specs.Tallies.{tallyAfter, sums}
 use Rattle.demands.specs.Unread.{SameUpTo}
 use Rattle.demands.specs.Asked.{DemandTwo, DemandThree, Reports}
@@ -53,7 +53,7 @@ use Rattle.demands.proofs.SequenceLaws.{from-setup, since-same, links-s
 use Rattle.demands.proofs.AnswerLaws as answers
 use Rattle.demands.proofs.PlaceLaws.{sound-has-place, insert-has-place}
 use Rattle.demands.proofs.MadeLaws.{Nothing, area-inside, refused-nothing, made-agree}
-use Rattle.demands.proofs.DigitLaws.{eight-digits}
+use Rattle.demands.proofs.LongestLaws.{eight-digits, made-longest}
 use Rattle.demands.proofs.TallyLaws.{history-made, since-made, tallied, tally-sums}
 use Rattle.demands.proofs.FrameLaws.{Reads, Writes, read-back, write-back}
 use Rattle.demands.proofs.UnreadLaws.{made-unread}

@@ -7,7 +7,7 @@ pub mod AnswerLaws
 pub mod NumberLaws
 pub mod PlaceLaws
 pub mod SequenceLaws
-pub mod DigitLaws
+pub mod LongestLaws
 pub mod TallyLaws
 pub mod FrameLaws
 pub mod MadeLaws

@@ -20,7 +20,7 @@ use Rattle.sessions.specs.Runs.{Runs}
 use Rattle.sessions.specs.Pieces.{Session}
 use Rattle.sessions.proofs.SameAnswers.{session-answers}
 use Rattle.demands.specs.Histories.{Call, accepted, begins, linksOf, Sequence, none, hasSetup, fromSetup, since, links, brought, handed, ifDone, putIn, takenOut, inserts, takes, once, packings, steps, times, StillHeld, Smallest}
-use Rattle.demands.specs.Bounds.{perPacking, stepsBound}
+use Rattle.rules.specs.Bounds.{perPacking, stepsBound}
 use Rattle.demands.specs.Asked.{EachCall, Held, Bounded, AtAnyTime, DemandTwo, DemandThree}
 use Rattle.demands.specs.Told.{seen, told, Tells, MadeSoFar, Packed, Reported}
 use Rattle.demands.proofs.HistoryLaws.{stands}

@@ -33,7 +33,7 @@ use Rattle.demands.specs.Histories.{Call, Made, Sequence, more}
 use Rattle.demands.specs.Exact.{Answers}
 use Rattle.demands.specs.Told.{toldBy, oneMore, toldAfter, seen, AnswersLine, AnswersEach}
 use Rattle.demands.proofs.AnswerLaws.{made-exactly}
-use Rattle.demands.proofs.DigitLaws.{eight-digits}
+use Rattle.demands.proofs.LongestLaws.{eight-digits}
 
 -- ---- an answer line, read again
 

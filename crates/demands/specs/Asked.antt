@@ -9,7 +9,7 @@ use Rattle.rules.specs.Links.{s, most}
 use Rattle.rules.specs.Examples.{insertOf, takeIt, lookAt, heldNow, auditIt, call}
 use Rattle.buffers.specs.Format.{lentOf}
 use Rattle.demands.specs.Histories.{Call, accepted, Sequence, hasSetup, since, links, putIn, takenOut, inserts, takes, steps, times, StillHeld, Smallest}
-use Rattle.demands.specs.Bounds.{stepsBound}
+use Rattle.rules.specs.Bounds.{stepsBound}
 
 -- each entry has come out as often as it was put in
 abbrev AsOften : List Call → Type 0

@@ -1,6 +1,5 @@
 pub mod Unread
 pub mod Histories
-pub mod Bounds
 pub mod Exact
 pub mod Tallies
 pub mod Asked

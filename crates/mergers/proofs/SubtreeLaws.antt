@@ -5,7 +5,7 @@ use mathlib.Core.Logic.{_⊎_, inl, inr}
 use mathlib.Core.Bool.{Bool, true, false}
 use mathlib.Core.List.{List, [], _∷_, _++_}
 use native.Mathlib.Omega.{arith}
-use native.Mathlib.Nat.{add-zero, le-max-left, le-max-right}
+use native.Mathlib.Nat.{add-zero}
 use native.Mathlib.Decide.{ℕ-discrete}
 use lib.Dec.{T, leb, eqb, leb→le, eqb→eq}
 use lib.ListN.{length, getD, set, drop, drop-of-length-le, List·getD-append}
@@ -21,7 +21,7 @@ use Rattle.rules.proofs.Table.{and-one, and-two, every-at, each-link, k-least, 
 use Rattle.buffers.specs.Slots.{base}
 use Rattle.buffers.proofs.SlotLaws.{base-is, in-words}
 use Rattle.mergers.specs.Post.{Spot, Fed}
-use Rattle.mergers.specs.Subtree.{subtree, heightOf, firstInput, secondInput, secondLink}
+use Rattle.mergers.specs.Subtree.{subtree, firstInput, secondInput, secondLink}
 
 -- ---- depths, by one computed test over all links
 
@@ -102,11 +102,6 @@ module _ (last : ℕ) {i : ℕ} (h : LinkNumber i) where
       → subtree last i j ≡ merger (first i + j) (capacity i j) (subtree last i (firstInput j)) (subtree last (secondLink i j) (secondInput j))
   fed-by-two low zero high = fed-a low ∙ rw (add-zero (first i))
   fed-by-two low (suc j) high = fed-inner (suc j) (omega arith) high
-
--- "the height below falls at each call": it falls from a merger to each of its inputs
-pub height-falls : (n c : ℕ) (one two : Tree) → (heightOf one < heightOf (merger n c one two)) × (heightOf two < heightOf (merger n c one two))
-unfolding heightOf
-height-falls n c one two = (omega (arith, le-max-left (heightOf one) (heightOf two)), omega (arith, le-max-right (heightOf one) (heightOf two)))
 
 pub first-input-is : (j : ℕ) → 0 < j → 2 * j ≡ firstInput j
 first-input-is zero h = absurd (omega arith)

@@ -14,6 +14,7 @@ use Rattle.rules.specs.Tests.{_and_}
 use Rattle.rules.specs.Links.{k, first, capacity, bufferCount, LinkNumber, InLink}
 use Rattle.rules.specs.Tree.{Buffers, Tree, exhausted, buffer, merger}
 use Rattle.rules.specs.Fill.{Filled, untouched, fill}
+use Rattle.rules.proofs.Heights.{height-falls}
 use Rattle.rules.proofs.Numbers.{Stands, itself, output, in-first, in-second, Among, joint}
 use Rattle.rules.proofs.Full.{Roomy, over}
 use Rattle.rules.proofs.Table.{k-least, first-most}
@@ -27,7 +28,7 @@ use Rattle.mergers.specs.Moves.{runLength}
 use Rattle.mergers.specs.Subtree.{subtree, heightBelow, firstInput, secondInput, secondLink}
 use Rattle.mergers.specs.Post.{wanted, wantedIn, Placed, Fed, At, Moving, Merging, Turning, Ran, seenIf, touchedIf, turnedBy}
 use Rattle.mergers.specs.Fills.{MarksRight, StandsIn, CanFill, Did}
-use Rattle.mergers.proofs.SubtreeLaws.{height-falls, fed-by-none, fed-by-two, past-last, part-among, part-roomy, first-spot, second-spot}
+use Rattle.mergers.proofs.SubtreeLaws.{fed-by-none, fed-by-two, past-last, part-among, part-roomy, first-spot, second-spot}
 use Rattle.mergers.proofs.TurnLaws.{refilled, Ready}
 use Rattle.mergers.proofs.RunLaws.{plus, filling}
 use Rattle.mergers.proofs.BoundLaws.{steps-few}

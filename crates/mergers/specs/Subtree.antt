@@ -1,19 +1,13 @@
 -- The part of the tree below link i's buffer j, where links behind `last` count as exhausted; and which buffers feed it.
-use Prim.Native.Nat.{ℕ, zero, suc, _+_, _-_, _*_, max}
+use Prim.Native.Nat.{ℕ, zero, suc, _+_, _-_, _*_}
 use lib.ListN.{drop}
 use Rattle.rules.specs.Links.{s, levels, first, depthOf}
-use Rattle.rules.specs.Tree.{Tree, exhausted, buffer, merger, perfect, linksFrom}
+use Rattle.rules.specs.Tree.{Tree, heightOf, perfect, linksFrom}
 
 unfoldable pub subtree : ℕ → ℕ → ℕ → Tree
 unfolding linksFrom perfect first s levels depthOf
 subtree last i zero = linksFrom i (suc last - i)
 subtree last i (suc j) = perfect (first i) (s i) (drop (depthOf (suc j)) (levels i)) (suc j)
-
--- how many mergers stand one below the other, at most
-unfoldable pub heightOf : Tree → ℕ
-heightOf exhausted = 0
-heightOf (buffer n c) = 0
-heightOf (merger n c one two) = suc (max (heightOf one) (heightOf two))
 
 -- the height below link i's buffer j
 abbrev pub heightBelow : ℕ → ℕ → ℕ → ℕ

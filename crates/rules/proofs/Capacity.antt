@@ -30,7 +30,8 @@ least-is test d passes (suc tries) n low high others =
     (λ q. let e : n ≡ d = omega arith in let t : test n ≡ true = ap test e ∙ passes in rw (t, least) e)
     (λ q. rw (others n (omega arith) q, least) (least-is test d passes tries (suc n) q (omega arith) (λ m l. others m (omega arith))))
 
-below-power : (d : ℕ) → d < 2 ^ d
+-- no number reaches the power of two that it names
+pub below-power : (d : ℕ) → d < 2 ^ d
 below-power zero = omega arith
 below-power (suc d) = omega (arith, below-power d, two-pow-succ d)
 

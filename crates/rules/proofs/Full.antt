@@ -91,7 +91,8 @@ module _ (key : ℕ → ℕ) where
   drains alone d h z e = refl
   drains (over some one two) d h z e = h z .done (omega arith)
 
-  contents-full : {t : Tree} → Roomy t → (d : ℕ) (z : Contents t) → TopFull t d z
+  -- every tree with room is filled to the top, or to its end
+  pub contents-full : {t : Tree} → Roomy t → (d : ℕ) (z : Contents t) → TopFull t d z
   unfolding fillContents weightBelow
   contents-full nothing d z = record { at-most = λ h. h; done = λ h. refl }
   contents-full alone d z = record { at-most = λ h. h; done = λ h. refl }

@@ -12,6 +12,8 @@ pub mod Insert
 pub mod Order
 pub mod Book
 pub mod Rest
+pub mod Bounds
 pub mod Calls
 pub mod Examples
+pub mod Longest
 pub mod Sessions

@@ -1,5 +1,5 @@
 -- The tree of buffers. A queue's buffers are one binary tree with A(1) at its root; I stands outside it.
-use Prim.Native.Nat.{ℕ, zero, suc, _+_, _*_, _^_}
+use Prim.Native.Nat.{ℕ, zero, suc, _+_, _*_, _^_, max}
 use mathlib.Core.List.{List, [], _∷_}
 use lib.ListN.{length, getD, set}
 use Rattle.rules.specs.Links.{s, k, levels, first, capacity}
@@ -27,6 +27,12 @@ unfoldable pub put : Tree → List ℕ → Buffers → Buffers
 put exhausted es bs = bs
 put (buffer n c) es bs = set bs n es
 put (merger n c one two) es bs = set bs n es
+
+-- how many mergers stand one below the other, at most
+unfoldable pub heightOf : Tree → ℕ
+heightOf exhausted = 0
+heightOf (buffer n c) = 0
+heightOf (merger n c one two) = suc (max (heightOf one) (heightOf two))
 
 -- "Its k-merger is a perfect binary tree over them, left to right, output B(i)": from buffer j downwards, with these capacities level by level, over buffers of size
 unfoldable pub perfect : ℕ → ℕ → List ℕ → ℕ → Tree

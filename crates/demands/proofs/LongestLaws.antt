@@ -1,0 +1,94 @@
+-- How long one call can run, on any words: nothing is known of them but what the call itself finds.
+use Prim.Native.Nat.{ℕ, _^_, _≤_, _<_}
+use mathlib.Core.Path.{_≡_, refl, sym, ap, subst}
+use mathlib.Core.Logic.{_⊎_, inl, inr}
+use mathlib.Core.Bool.{true}
+use mathlib.Core.List.{List, _∷_, _++_}
+use native.Mathlib.Omega.{arith}
+use lib.Dec.{T, lit≤}
+use Rattle.rules.specs.declared.Answer.{Answer}
+use Rattle.rules.specs.Longest.{longestTake, longestInsert, longestCall, longestTakes, longestInserts}
+use Rattle.rules.specs.Book.{isLinkNumber, sound}
+use Rattle.rules.specs.Calls.{Lent, Outcome, queueOf, refused}
+use Rattle.rules.specs.Examples.{Order, setupOf, insertOf, takeIt, lookAt, heldNow, auditIt, call}
+use Rattle.rules.proofs.Tests.{truth}
+use Rattle.rules.proofs.BookLaws.{Kept, sound-says}
+use Rattle.rules.proofs.BookKept.{Shaped}
+use Rattle.rules.proofs.LongestLaws.{take-longest, insert-longest}
+use Rattle.rules.proofs.Accepted.{Refusal, Long, take-cases, look-cases, insert-call-cases, held-cases, audit-cases}
+use Rattle.buffers.specs.Format.{linksIn, bookOf, lentOf}
+use Rattle.buffers.proofs.Exact.{sound-inside}
+use Rattle.queue.proofs.BookLaws.{describes, shaped}
+use Rattle.demands.specs.Histories.{Call, Made}
+use Rattle.demands.proofs.BoundLaws.{of-four}
+use Rattle.demands.proofs.CallLaws.{setup-steps}
+
+-- no call runs longer than 138,176 steps
+few : (order : Order) (l : ℕ) → T (isLinkNumber l) → longestCall order l ≤ 138176
+unfolding longestCall longestTake longestInsert
+few (setupOf l) = of-four (λ l. 0 ≤ 138176) (lit≤ tt) (lit≤ tt) (lit≤ tt) (lit≤ tt)
+few (insertOf entry) = of-four (λ l. longestInsert l ≤ 138176) (lit≤ tt) (lit≤ tt) (lit≤ tt) (lit≤ tt)
+few takeIt = of-four (λ l. longestTake l ≤ 138176) (lit≤ tt) (lit≤ tt) (lit≤ tt) (lit≤ tt)
+few lookAt = of-four (λ l. longestTake l ≤ 138176) (lit≤ tt) (lit≤ tt) (lit≤ tt) (lit≤ tt)
+few heldNow = of-four (λ l. 0 ≤ 138176) (lit≤ tt) (lit≤ tt) (lit≤ tt) (lit≤ tt)
+few auditIt = of-four (λ l. 0 ≤ 138176) (lit≤ tt) (lit≤ tt) (lit≤ tt) (lit≤ tt)
+
+-- ---- any array
+
+module _ (ws : List ℕ) where
+  abbrev a : Lent
+  a = lentOf ws
+
+  -- a call makes no step, or it is on one to four links and makes at most so many
+  abbrev Runs : Order → Outcome → Type 0
+  Runs order o = (o .steps ≡ 0) ⊎ (T (isLinkNumber (linksIn ws)) × (o .steps ≤ longestCall order (linksIn ws)))
+
+  refused-runs : (order : Order) (answer : Answer) → Refusal answer → Runs order (refused answer (queueOf a))
+  unfolding refused
+  refused-runs order answer r = inl refl
+
+  shape-of : Long a → T (sound (bookOf ws)) → Shaped (queueOf a)
+  unfolding lentOf bookOf
+  shape-of long holds = shaped ws (sound-inside ws (truth (sound (bookOf ws)) holds) (long .enough))
+
+  kept-of : Long a → T (sound (bookOf ws)) → Kept 7 (queueOf a)
+  unfolding lentOf bookOf
+  kept-of long holds = sound-says (bookOf ws) (queueOf a) (describes ws (sound-inside ws (truth (sound (bookOf ws)) holds) (long .enough))) holds
+
+  runs : (work : ℕ) (order : Order) → Runs order (call work order a)
+  unfolding call longestCall lentOf queueOf bookOf
+  runs work (setupOf l) = inl (setup-steps a l)
+  runs work (insertOf entry) =
+      insert-call-cases a (Runs (insertOf entry)) (refused-runs (insertOf entry)) work entry (λ may.
+      let kept = kept-of (may .long) (may .holds) in
+      inr (kept .number, insert-longest entry (queueOf a) (shape-of (may .long) (may .holds)) kept (may .not-full)))
+  runs work takeIt =
+      take-cases a (Runs takeIt) (refused-runs takeIt) (λ may.
+      let kept = kept-of (may .long) (may .holds) in
+      inr (kept .number, take-longest 7 (queueOf a) (shape-of (may .long) (may .holds)) kept))
+  runs work lookAt =
+      look-cases a (Runs lookAt) (refused-runs lookAt) (λ may.
+      let kept = kept-of (may .long) (may .holds) in
+      inr (kept .number, take-longest 7 (queueOf a) (shape-of (may .long) (may .holds)) kept))
+  runs work heldNow = held-cases a (Runs heldNow) (refused-runs heldNow) (λ long holds. inl refl)
+  runs work auditIt = audit-cases a (Runs auditIt) (refused-runs auditIt) (λ long holds order. inl refl)
+
+  -- a call's steps are at most the longest's
+  pub call-longest : (work : ℕ) (order : Order) → call work order a .steps ≤ longestCall order (linksIn ws)
+  call-longest work order = elim (runs work order) [ inl none ↦ omega (arith, none) | inr some ↦ some .1 ]
+
+  -- and of no more than eight hexadecimal digits
+  call-few : (work : ℕ) (order : Order) → call work order a .steps < 16 ^ 8
+  call-few work order =
+      elim (runs work order) [
+        | inl none ↦ omega (arith, none)
+        | inr some ↦ omega (arith, some .1, few order (linksIn ws) (some .0))
+      ]
+
+module _ (ws ws′ : List ℕ) (c : Call) (made : Made ws c ws′) where
+  -- of a call that was made
+  pub made-longest : c .steps ≤ longestCall (c .order) (linksIn ws)
+  made-longest = omega (arith, made .called .steps-are, call-longest ws (c .work) (c .order))
+
+  pub eight-digits : c .steps < 16 ^ 8
+  eight-digits = omega (arith, made .called .steps-are, call-few ws (c .work) (c .order))

@@ -1,0 +1,33 @@
+-- Numbers written, computed.
+use mathlib.Core.Path.{_≡_, refl}
+use mathlib.Core.List.{List, [], _∷_}
+use Prim.Native.Nat.{ℕ}
+use Rattle.text.specs.Decimal.{places, digits, decimal, valueAfter, valueOf}
+
+nought : decimal 0 ≡ 48 ∷ []
+unfolding places digits
+nought = refl
+
+nine : decimal 9 ≡ 57 ∷ []
+unfolding places digits
+nine = refl
+
+ten : decimal 10 ≡ 49 ∷ 48 ∷ []
+unfolding places digits
+ten = refl
+
+slots : decimal 223488 ≡ 50 ∷ 50 ∷ 51 ∷ 52 ∷ 56 ∷ 56 ∷ []
+unfolding places digits
+slots = refl
+
+-- 18446744073709551615, the last of 64 bits: 20 digits
+last : List ℕ
+last = 49 ∷ 56 ∷ 52 ∷ 52 ∷ 54 ∷ 55 ∷ 52 ∷ 52 ∷ 48 ∷ 55 ∷ 51 ∷ 55 ∷ 48 ∷ 57 ∷ 53 ∷ 53 ∷ 49 ∷ 54 ∷ 49 ∷ 53 ∷ []
+
+last-written : decimal 18446744073709551615 ≡ last
+unfolding places digits last
+last-written = refl
+
+last-read : valueOf last ≡ 18446744073709551615
+unfolding valueAfter last
+last-read = refl

@@ -1,0 +1,4 @@
+pub mod Decimal
+pub mod Laid
+pub mod Examples
+pub mod Bytes
