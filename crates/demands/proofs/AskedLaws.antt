@@ -1,15 +1,18 @@
--- Demands 2 and 3 hold of any calls one after the other on one array.
+-- Demands 2 and 3 hold of any calls, and how long each can run, one after the other on one array.
 use Prim.Native.Nat.{ℕ}
-use mathlib.Core.Path.{_≡_, refl, ap, subst}
+use mathlib.Core.Path.{_≡_, refl, ap, _∙_, subst}
 use native.Mathlib.Omega.{arith}
 use lib.ListN.{length, drop}
 use mathlib.Core.Bool.{true}
 use mathlib.Core.List.{List, [], _∷_, _++_}
-use Rattle.rules.proofs.History.{packings-bound}
+use Rattle.rules.proofs.History.{since-fine, packings-bound}
+use Rattle.rules.specs.Calls.{queueOf}
+use Rattle.buffers.specs.Format.{linksIn, lentOf}
 use Rattle.demands.specs.Histories.{Call, Made, History, Sequence, none, more, hasSetup, fromSetup, since, links, packings, meanwhile}
-use Rattle.demands.specs.Asked.{EachCall, Held, Bounded, AtAnyTime, DemandTwo, DemandThree, Reports}
+use Rattle.demands.specs.Asked.{EachCall, Held, Bounded, AtAnyTime, DemandTwo, DemandThree, Reports, NoLonger}
 use Rattle.demands.proofs.HistoryLaws.{stands}
 use Rattle.demands.proofs.BoundLaws.{few-steps, one-to-four}
+use Rattle.demands.proofs.LongestLaws.{call-longest}
 use Rattle.demands.proofs.SmallestLaws.{headOr, no-more, smallest-taken, smallest-seen}
 use Rattle.demands.proofs.AnswerLaws.{all-out, at-most, take-accepted, look-accepted, refused-empty, refused-look, held-counts, audit-done-now, insert-accepted, insert-short, insert-door, insert-full}
 use Rattle.demands.proofs.SequenceLaws.{from-setup, since-same, links-same}
@@ -117,3 +120,16 @@ pub sequence-reports : {ws ws′ : List ℕ} (cs : List Call) → Sequence ws cs
 sequence-reports {ws} {ws′} cs calls later c earlier e =
     let b = cut-at later c earlier (subst (λ cs. Sequence ws cs ws′) e calls) in
     record { found = b .ws₁; calls = b .calls; steps-are = b .made .called .steps-are }
+
+-- ---- how long a call can run
+
+-- the links that a call finds are those of the setup
+links-found : {cs : List Call} {ws : List ℕ} → History cs ws → linksIn ws ≡ links cs
+unfolding queueOf lentOf
+links-found {cs} h = since-fine (links cs) (stands h .number) (stands h .goes) .same
+
+pub sequence-no-longer : {ws ws′ : List ℕ} (cs : List Call) → Sequence ws cs ws′ → NoLonger cs
+sequence-no-longer cs calls later c earlier e has =
+    let r = sequence-reports cs calls later c earlier e in
+    let links-are : linksIn (r .found) ≡ links earlier = links-found (from-setup (r .calls) has) ∙ links-same earlier in
+    omega (arith, r .steps-are, rw links-are at (call-longest (r .found) (c .work) (c .order)))

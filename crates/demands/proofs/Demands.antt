@@ -15,6 +15,8 @@ use Rattle.rules.specs.Insert.{entered}
 use Rattle.rules.specs.Rest.{HasPlace}
 use Rattle.rules.specs.Book.{sound}
 use Rattle.rules.specs.Calls.{queueOf}
+use Rattle.rules.specs.Bounds.{stepsBound}
+use Rattle.rules.specs.Longest.{longestCall}
 use Rattle.rules.specs.Examples.{insertOf, takeIt, lookAt, heldNow, auditIt, call}
 use Rattle.rules.proofs.AnswerLaws as numbers
 use Rattle.rules.proofs.EntryOrder.{Earlier}
@@ -35,10 +37,9 @@ use Rattle.frames.specs.declared.Written.{Written}
 use Rattle.frames.specs.declared.Written.the-variants.{Bytes}
 use Rattle.demands.specs.Histories.{Call, Made, accepted, MadeSame, History, Sequence, hasSetup, fromSetup, since, links, putIn, takenOut, inserts, takes, packings, steps, times, StillHeld, Smallest}
 use Rattle.demands.specs.Exact.{Answers}
-use Rattle.rules.specs.Bounds.{stepsBound}
 use Rattle.demands.specs.Tallies.{tallyAfter, sums}
 use Rattle.demands.specs.Unread.{SameUpTo}
-use Rattle.demands.specs.Asked.{DemandTwo, DemandThree, Reports}
+use Rattle.demands.specs.Asked.{DemandTwo, DemandThree, Reports, NoLonger}
 use Rattle.demands.specs.Told.{told, Tells, Packed, Reported}
 use Rattle.demands.specs.Library as library
 use Rattle.gorgalhut.specs.Framed.{FrameRead, FrameWritten}
@@ -53,15 +54,15 @@ use Rattle.demands.proofs.SequenceLaws.{from-setup, since-same, links-s
 use Rattle.demands.proofs.AnswerLaws as answers
 use Rattle.demands.proofs.PlaceLaws.{sound-has-place, insert-has-place}
 use Rattle.demands.proofs.MadeLaws.{Nothing, area-inside, refused-nothing, made-agree}
-use Rattle.demands.proofs.LongestLaws.{eight-digits, made-longest}
+use Rattle.demands.proofs.LongestLaws.{eight-digits, made-longest, taken-longest, take-rows}
 use Rattle.demands.proofs.TallyLaws.{history-made, since-made, tallied, tally-sums}
 use Rattle.demands.proofs.FrameLaws.{Reads, Writes, read-back, write-back}
 use Rattle.demands.proofs.UnreadLaws.{made-unread}
 use Rattle.demands.proofs.Existence.{computed}
-use Rattle.demands.proofs.AskedLaws.{sequence-two, sequence-three, sequence-reports}
+use Rattle.demands.proofs.AskedLaws.{sequence-two, sequence-three, sequence-reports, sequence-no-longer}
 use Rattle.demands.proofs.LibraryLaws.{library-made, library-calls}
 use Rattle.demands.proofs.LibraryFrameLaws.{library-read-back, library-write-back}
-use Rattle.demands.proofs.SeenLaws.{session-tells, session-two, session-packed, session-three, session-reports}
+use Rattle.demands.proofs.SeenLaws.{session-tells, session-two, session-packed, session-three, session-reports, session-no-longer}
 
 -- ---- demand 1: a call c on any words ws, which left the words ws′
 
@@ -113,6 +114,17 @@ eight-given-to-none = numbers.eight-given-to-none
 -- and the tally takes it for a number that means nothing
 pub eight-adds-nothing : (tally : Tally) (call steps : ℕ) (packed : Bool) → (numbered.named call 8 ≡ false) × (numbered.tallied tally call 8 steps packed ≡ tally)
 eight-adds-nothing = means-nothing 8 eight-given-to-none
+
+-- ---- document 02, R-9: how long one call can run
+
+-- "For every array whose book is sound, show that one take makes at most ..": on any words, in order or not, since a call that finds no sound book is refused and makes no step; a look and an insert too
+pub each-call-no-longer : (ws ws′ : List ℕ) (c : Call) → Made ws c ws′ → c .steps ≤ longestCall (c .order) (linksIn ws)
+each-call-no-longer = made-longest
+
+-- ".. 16 merge steps with one link, 224 with two and 2,396 with three"; "the formula's value for four": 23,500
+pub each-take-by-rows : (ws ws′ : List ℕ) (c : Call) → Made ws c ws′ → (c .order ≡ takeIt) ⊎ (c .order ≡ lookAt)
+    → (linksIn ws ≡ 1 → c .steps ≤ 16) × (linksIn ws ≡ 2 → c .steps ≤ 224) × (linksIn ws ≡ 3 → c .steps ≤ 2396) × (linksIn ws ≡ 4 → c .steps ≤ 23500)
+each-take-by-rows ws ws′ c made is = take-rows (linksIn ws) (c .steps) (taken-longest ws ws′ c made is)
 
 -- ---- demand 2: a call c in a history, after the calls `earlier` and before the calls `later`
 
@@ -235,7 +247,7 @@ module _ {ws : List ℕ} (cs : List Call) (h : History cs ws) where
   pub tally-bounded : Within (sums (since cs)) → let t = tallyAfter (since cs) in t .steps ≤ stepsBound (links cs) (t .inserts) (t .packings)
   tally-bounded w = rw (tally-sums (since cs) (since-made cs (history-made h)) w) steps-bounded
 
--- there are histories: a computed one has sweeps, a packing and a refusal
+-- there are histories: a computed one has sweeps, a packing, a refusal, and with one link a take of 16 steps, the most that there can be
 pub histories-exist : Exists
 histories-exist = computed
 
@@ -250,6 +262,9 @@ module _ {ws ws′ : List ℕ} (cs : List Call) (calls : Sequence ws cs ws′) w
 
   pub calls-report : (later : List Call) (c : Call) (earlier : List Call) → cs ≡ later ++ c ∷ earlier → Reports ws c earlier
   calls-report = sequence-reports cs calls
+
+  pub calls-no-longer : NoLonger cs
+  calls-no-longer = sequence-no-longer cs calls
 
 -- what `run_piece` and `finish` promise, call after call, is a session
 pub sessions-by-contracts : {ws ws′ work work′ out : List ℕ} (pieces : List (List ℕ)) → Fed ws work [] pieces ws′ work′ out → Session (length work) ws work [] pieces ws′ work′ out
@@ -276,6 +291,9 @@ module _ {ws ws′ work work′ out : List ℕ} (pieces : List (List ℕ)) (sess
   pub lines-report : (later : List Call) (c : Call) (earlier : List Call) → told (length work) (flatten pieces) out ≡ later ++ c ∷ earlier → Reported ws c earlier
   lines-report = session-reports pieces session
 
+  pub lines-no-longer : NoLonger (told (length work) (flatten pieces) out)
+  lines-no-longer = session-no-longer pieces session
+
 -- ---- of calls by the library, from what C gets back
 
 -- each is a call that was made
@@ -291,6 +309,9 @@ module _ {ws ws′ : List ℕ} (cs : List Call) (calls : library.Calls ws cs ws�
 
   pub library-reports : (later : List Call) (c : Call) (earlier : List Call) → cs ≡ later ++ c ∷ earlier → Reports ws c earlier
   library-reports = sequence-reports cs (library-calls calls)
+
+  pub library-no-longer : NoLonger cs
+  library-no-longer = sequence-no-longer cs (library-calls calls)
 
 -- "A frame written and read again is the same frame, and the reverse."
 pub library-frame-read-again : (kind value : ℕ) (out out′ : List ℕ) (n number kind′ value′ : ℕ) → FrameWritten kind value out out′ 0 n → FrameRead (take n out′) number kind′ value′

@@ -1,4 +1,4 @@
--- There is a history, computed, and in it sweeps, a packing and a refusal: what is proved of every history is not about nothing.
+-- There is a history, computed, and in it sweeps, a packing, a refusal, and a take and an insert that run as long as they can: what is proved of every history is not about nothing.
 use Prim.Native.Nat.{ℕ, _+_, _-_, _≤_, _<_}
 use mathlib.Core.Path.{_≡_, refl, sym, ap, _∙_, subst}
 use mathlib.Core.Logic.{inl, inr}
@@ -15,6 +15,7 @@ use Rattle.rules.specs.Tests.{_and_, _implies_}
 use Rattle.rules.specs.Queue.{Queue, counter}
 use Rattle.rules.specs.Book.{sound}
 use Rattle.rules.specs.Calls.{Outcome, queueOf}
+use Rattle.rules.specs.Longest.{longestTake, longestInsert}
 use Rattle.rules.specs.Examples as examples
 use Rattle.rules.specs.Examples.{Order, setupOf, insertOf, takeIt, lookAt, heldNow, auditIt, call, takes}
 use Rattle.rules.proofs.Tests.{truth}
@@ -290,7 +291,7 @@ unfolding allFit begun orders base
 all-fit = tt
 
 pub computed : Exists
-unfolding begun orders callsFrom goes-on setup-begins base
+unfolding begun orders callsFrom goes-on setup-begins base longestTake longestInsert
 computed = record {
   calls = callsFrom begun theSetup orders;
   left = wordsOf (queueFrom begun orders);
@@ -298,4 +299,6 @@ computed = record {
   swept = refl;
   packed = refl;
   refused = refl;
+  longest-take = refl;
+  longest-insert = refl;
 }

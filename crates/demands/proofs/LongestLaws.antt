@@ -1,13 +1,12 @@
 -- How long one call can run, on any words: nothing is known of them but what the call itself finds.
 use Prim.Native.Nat.{ℕ, _^_, _≤_, _<_}
-use mathlib.Core.Path.{_≡_, refl, sym, ap, subst}
+use mathlib.Core.Path.{_≡_, refl, subst}
 use mathlib.Core.Logic.{_⊎_, inl, inr}
-use mathlib.Core.Bool.{true}
-use mathlib.Core.List.{List, _∷_, _++_}
+use mathlib.Core.List.{List}
 use native.Mathlib.Omega.{arith}
 use lib.Dec.{T, lit≤}
 use Rattle.rules.specs.declared.Answer.{Answer}
-use Rattle.rules.specs.Longest.{longestTake, longestInsert, longestCall, longestTakes, longestInserts}
+use Rattle.rules.specs.Longest.{longestTake, longestInsert, longestCall}
 use Rattle.rules.specs.Book.{isLinkNumber, sound}
 use Rattle.rules.specs.Calls.{Lent, Outcome, queueOf, refused}
 use Rattle.rules.specs.Examples.{Order, setupOf, insertOf, takeIt, lookAt, heldNow, auditIt, call}
@@ -92,3 +91,16 @@ module _ (ws ws′ : List ℕ) (c : Call) (made : Made ws c ws′) where
 
   pub eight-digits : c .steps < 16 ^ 8
   eight-digits = omega (arith, made .called .steps-are, call-few ws (c .work) (c .order))
+
+  -- of a take or a look
+  pub taken-longest : (c .order ≡ takeIt) ⊎ (c .order ≡ lookAt) → c .steps ≤ longestTake (linksIn ws)
+  unfolding longestCall
+  taken-longest (inl is) = rw is at made-longest
+  taken-longest (inr is) = rw is at made-longest
+
+-- the rows, from the one formula
+pub take-rows : (l t : ℕ) → t ≤ longestTake l → (l ≡ 1 → t ≤ 16) × (l ≡ 2 → t ≤ 224) × (l ≡ 3 → t ≤ 2396) × (l ≡ 4 → t ≤ 23500)
+unfolding longestTake
+take-rows l t h =
+    let at : (m : ℕ) → l ≡ m → t ≤ longestTake m = λ m e. subst (λ l. t ≤ longestTake l) e h in
+    (at 1, at 2, at 3, at 4)

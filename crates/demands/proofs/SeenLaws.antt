@@ -11,6 +11,8 @@ use lib.Dec.{T, eqb, eqb→eq}
 use lib.ListN.{length, drop}
 use Rattle.rules.specs.Links.{s}
 use Rattle.rules.specs.Tests.{_or_}
+use Rattle.rules.specs.Bounds.{perPacking, stepsBound}
+use Rattle.rules.specs.Longest.{longestCall}
 use Rattle.rules.specs.Examples.{Order, setupOf, insertOf, takeIt, lookAt, heldNow, auditIt, call}
 use Rattle.buffers.specs.Format.{lentOf}
 use Rattle.frames.specs.Digits.{number, digits}
@@ -20,15 +22,14 @@ use Rattle.sessions.specs.Runs.{Runs}
 use Rattle.sessions.specs.Pieces.{Session}
 use Rattle.sessions.proofs.SameAnswers.{session-answers}
 use Rattle.demands.specs.Histories.{Call, accepted, begins, linksOf, Sequence, none, hasSetup, fromSetup, since, links, brought, handed, ifDone, putIn, takenOut, inserts, takes, once, packings, steps, times, StillHeld, Smallest}
-use Rattle.rules.specs.Bounds.{perPacking, stepsBound}
-use Rattle.demands.specs.Asked.{EachCall, Held, Bounded, AtAnyTime, DemandTwo, DemandThree}
+use Rattle.demands.specs.Asked.{EachCall, Held, Bounded, AtAnyTime, DemandTwo, DemandThree, NoLonger}
 use Rattle.demands.specs.Told.{seen, told, Tells, MadeSoFar, Packed, Reported}
 use Rattle.demands.proofs.HistoryLaws.{stands}
 use Rattle.demands.proofs.BoundLaws.{few-held}
 use Rattle.demands.proofs.SmallestLaws.{headOr}
 use Rattle.demands.proofs.AnswerLaws.{at-most}
 use Rattle.demands.proofs.SequenceLaws.{from-setup}
-use Rattle.demands.proofs.AskedLaws.{from-last, Before, UpTo, up-to, cut-at, sequence-held, sequence-two, sequence-third, sequence-reports}
+use Rattle.demands.proofs.AskedLaws.{from-last, Before, UpTo, up-to, cut-at, sequence-held, sequence-two, sequence-third, sequence-reports, sequence-no-longer}
 use Rattle.demands.proofs.ToldLaws.{SmallOrder, EachSmall, lines-fit, TellsSoFar, run-tells, run-answers}
 
 -- ---- the same setups, inserts and steps
@@ -334,3 +335,12 @@ module _ {ws ws′ work work′ out : List ℕ} (pieces : List (List ℕ)) (sess
         so-far = record { calls = z .earlier′; left = r .found; made = r .calls; tells = z .before };
         steps-are = subst (λ c. c .steps ≡ call (c .work) (c .order) (lentOf (r .found)) .steps) (z .same) (r .steps-are);
       }
+
+  pub session-no-longer : NoLonger (told (length work) input out)
+  unfolding seen
+  session-no-longer later c earlier e has =
+      let z = split (so-far .calls) later c earlier (sym (so-far .tells) ∙ e) in
+      let had : hasSetup (z .earlier′) ≡ true = sym (has-seen (z .earlier′)) ∙ ap hasSetup (z .before) ∙ has in
+      let links-are : links (z .earlier′) ≡ links earlier = sym (links-seen (z .earlier′)) ∙ ap links (z .before) in
+      let n = sequence-no-longer (so-far .calls) (so-far .sequence) (z .later′) (z .c′) (z .earlier′) (z .whole) had in
+      subst (λ c. c .steps ≤ longestCall (c .order) (links earlier)) (z .same) (rw links-are at n)

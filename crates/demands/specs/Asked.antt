@@ -1,4 +1,4 @@
--- Demands 2 and 3, asked of a list of calls, the latest first, by what was ordered, lent and answered: of calls that were made, of those that a session's lines tell, of those by the library.
+-- Demands 2 and 3 and how long a call can run, asked of a list of calls, the latest first, by what was ordered, lent and answered: of calls that were made, of those that a session's lines tell, of those by the library.
 use Prim.Native.Nat.{ℕ, _+_, _/_, _≤_, _<_}
 use mathlib.Core.Path.{_≡_}
 use mathlib.Core.Bool.{true, false}
@@ -6,10 +6,11 @@ use mathlib.Core.List.{List, _∷_, _++_}
 use Rattle.rules.specs.declared.Answer.the-variants.{Done, WorkShort, Full, NoneHeld, DoorAbove}
 use Rattle.rules.specs.Entries.{door}
 use Rattle.rules.specs.Links.{s, most}
+use Rattle.rules.specs.Bounds.{stepsBound}
+use Rattle.rules.specs.Longest.{longestCall}
 use Rattle.rules.specs.Examples.{insertOf, takeIt, lookAt, heldNow, auditIt, call}
 use Rattle.buffers.specs.Format.{lentOf}
 use Rattle.demands.specs.Histories.{Call, accepted, Sequence, hasSetup, since, links, putIn, takenOut, inserts, takes, steps, times, StillHeld, Smallest}
-use Rattle.rules.specs.Bounds.{stepsBound}
 
 -- each entry has come out as often as it was put in
 abbrev AsOften : List Call → Type 0
@@ -72,3 +73,7 @@ pub record Reports (ws : List ℕ) (c : Call) (earlier : List Call) : Type 0 whe
   pub found : List ℕ
   pub calls : Sequence ws earlier found
   pub steps-are : c .steps ≡ call (c .work) (c .order) (lentOf found) .steps
+
+-- document 02, R-9: a call after an accepted setup runs no longer than a call on that many links can
+abbrev pub NoLonger : List Call → Type 0
+NoLonger cs = (later : List Call) (c : Call) (earlier : List Call) → cs ≡ later ++ c ∷ earlier → hasSetup earlier ≡ true → c .steps ≤ longestCall (c .order) (links earlier)

@@ -5,8 +5,9 @@ use mathlib.Core.Bool.{not}
 use mathlib.Core.List.{List, [], _∷_}
 use lib.Dec.{eqb}
 use Rattle.rules.specs.Tests.{_and_}
+use Rattle.rules.specs.Longest.{longestTake, longestInsert}
 use Rattle.buffers.specs.Format.{countOf}
-use Rattle.demands.specs.Histories.{Call, accepted, History, first, next, between, inserts, once, packings}
+use Rattle.demands.specs.Histories.{Call, accepted, History, first, next, between, inserts, takes, once, packings}
 
 -- "If I now has 8, .. sweep": an accepted insert, 7 in I before and none afterwards, that did not pack
 abbrev pub sweeps : {cs : List Call} {ws : List ℕ} → History cs ws → ℕ
@@ -18,6 +19,11 @@ abbrev pub refusals : List Call → ℕ
 refusals [] = 0
 refusals (c ∷ cs) = once (not (accepted c)) + refusals cs
 
+-- how many accepted takes, or accepted inserts, made so many steps
+abbrev pub lasting : (List Call → ℕ) → ℕ → List Call → ℕ
+lasting kind n [] = 0
+lasting kind n (c ∷ cs) = once (eqb (kind (c ∷ [])) 1 and eqb (c .steps) n) + lasting kind n cs
+
 -- calls that have a history, the words that they left, and what is in it
 pub record Exists : Type 0 where
   pub calls : List Call
@@ -26,3 +32,6 @@ pub record Exists : Type 0 where
   pub swept : sweeps history ≡ 2
   pub packed : packings calls ≡ 1
   pub refused : refusals calls ≡ 1
+  -- a take and an insert that ran as long as they can
+  pub longest-take : lasting takes (longestTake 1) calls ≡ 1
+  pub longest-insert : lasting inserts (longestInsert 1) calls ≡ 1

@@ -1,26 +1,33 @@
 // Prints how large a queue of so many links is, and how long one call on it can run: a line for each number of links.
+ghost use mathlib.Core.Path.{_≡_};
+ghost use mathlib.Core.List.{_++_};
+ghost use Prim.Native.Nat.{_+_, _*_, _≤_, _<_};
+ghost use lib.ListN.{length};
+ghost use Rattle.rules.specs.Links.{k, height, capacity, LinkNumber};
+ghost use Rattle.rules.specs.Tree.{kMerger};
+ghost use Rattle.rules.specs.Bounds.{perInsert, perPacking};
+ghost use Rattle.rules.specs.Longest.{risen, longestTake, longestInsert};
+ghost use Rattle.text.specs.Decimal.{decimal};
+ghost use Rattle.text.specs.Laid.{Laid};
+ghost use Rattle.limits.specs.Lines.{sizes, inserts, line, linesFrom};
 use rules::Link;
 
-// How many levels of mergers stand between B(i) and an S(i,j).
-fn height(k: usize) -> usize {
-    let mut levels = 0;
-    let mut inputs = 1;
-    while inputs < k {
-        inputs = 2 * inputs;
-        levels += 1;
-    }
-    levels
-}
-
-// The fifth link's sizes stand here until a queue may have five.
-fn k(i: usize) -> usize {
+// How many S link i has; the fifth link's sizes stand here until a queue may have it.
+fn k(i: usize) -> usize
+    requires { ⌜ (1 ≤ i) × (i ≤ 5) ⌝ }
+    ensures { λ r. ⌜ r ≡ k i ⌝ }
+{
     if i > Link::MOST {
         return 32;
     }
     Link::at(i).k()
 }
 
-fn capacity(i: usize, j: usize) -> usize {
+// The capacity of link i's buffer j, which is no S.
+fn capacity(i: usize, j: usize) -> usize
+    requires { ⌜ (1 ≤ i) × (i ≤ 5) × (j < k i) ⌝ }
+    ensures { λ r. ⌜ r ≡ capacity i j ⌝ }
+{
     if i > Link::MOST {
         return match j {
             0..=1 => 32768,
@@ -33,9 +40,27 @@ fn capacity(i: usize, j: usize) -> usize {
     Link::at(i).capacity(j)
 }
 
-// What filling B(i) once can cost at most.
-fn risen(i: usize) -> usize {
-    let mut levels = height(k(i));
+// How many mergers stand one above the other between B(i) and an S.
+fn height(i: usize) -> usize
+    requires { ⌜ (1 ≤ i) × (i ≤ 5) ⌝ }
+    ensures { λ r. ⌜ r ≡ height i ⌝ }
+{
+    let all = k(i);
+    let mut levels = 0;
+    let mut inputs = 1;
+    while inputs < all {
+        inputs = 2 * inputs;
+        levels += 1;
+    }
+    levels
+}
+
+// What filling B(i) once can cost at most: j buffers on a level, and so many levels of mergers below them.
+fn risen(i: usize) -> usize
+    requires { ⌜ (1 ≤ i) × (i ≤ 5) ⌝ }
+    ensures { λ r. ⌜ r ≡ risen (kMerger i) ⌝ }
+{
+    let mut levels = height(i);
     let mut j = 1;
     let mut total = 0;
     while levels > 0 {
@@ -46,7 +71,10 @@ fn risen(i: usize) -> usize {
     total
 }
 
-fn longest_take(links: usize) -> usize {
+fn longest_take(links: usize) -> usize
+    requires { ⌜ (1 ≤ links) × (links ≤ 5) ⌝ }
+    ensures { λ r. ⌜ r ≡ longestTake links ⌝ }
+{
     let mut i = 1;
     let mut total = 0;
     while i <= links {
@@ -56,12 +84,17 @@ fn longest_take(links: usize) -> usize {
     total
 }
 
-fn longest_insert(links: usize) -> usize {
-    let last = Link::at(links);
-    (links + height(last.k())) * (last.most() - Link::INSERTION)
+fn longest_insert(links: usize) -> usize
+    requires { ⌜ LinkNumber links ⌝ }
+    ensures { λ r. ⌜ r ≡ longestInsert links ⌝ }
+{
+    (links + height(links)) * (Link::at(links).most() - Link::INSERTION)
 }
 
-fn per_insert(links: usize) -> usize {
+fn per_insert(links: usize) -> usize
+    requires { ⌜ LinkNumber links ⌝ }
+    ensures { λ r. ⌜ r ≡ perInsert links ⌝ }
+{
     match links {
         0..=1 => 2,
         2..=2 => 6,
@@ -70,32 +103,46 @@ fn per_insert(links: usize) -> usize {
     }
 }
 
-fn per_packing(links: usize) -> usize {
-    let last = Link::at(links);
-    (links + height(last.k())) * last.most()
+fn per_packing(links: usize) -> usize
+    requires { ⌜ LinkNumber links ⌝ }
+    ensures { λ r. ⌜ r ≡ perPacking links ⌝ }
+{
+    (links + height(links)) * Link::at(links).most()
 }
 
-fn lay_field(out: &mut [u8], at: usize, label: &[u8], n: usize) -> usize {
+// A label, and a number in decimal.
+fn lay_field(out: &mut [u8], at: usize, label: &[u8], n: usize) -> usize
+    requires { ⌜ at + length (now label) + 20 ≤ length (now out) ⌝ }
+    ensures { λ r. ⌜ Laid (now (label .entry) ++ decimal n) at (now (out .entry)) (now (out .exit)) r ⌝ }
+{
     let end = text::lay(out, at, label);
     text::lay_number(out, end, n as u64)
 }
 
-// How large a queue is.
-fn lay_sizes(out: &mut [u8], at: usize, links: usize) -> usize {
+fn lay_sizes(out: &mut [u8], at: usize, links: usize) -> usize
+    requires { ⌜ LinkNumber links × (at + 85 ≤ length (now out)) ⌝ }
+    ensures { λ r. ⌜ Laid (sizes links) at (now (out .entry)) (now (out .exit)) r ⌝ }
+{
     let last = Link::at(links);
     let mut end = lay_field(out, at, b"  array ", last.words());
     end = lay_field(out, end, b"  work ", last.most());
     lay_field(out, end, b"  entries ", last.most())
 }
 
-// How long an insert can run, and what inserts and packings can cost together.
-fn lay_inserts(out: &mut [u8], at: usize, links: usize) -> usize {
+fn lay_inserts(out: &mut [u8], at: usize, links: usize) -> usize
+    requires { ⌜ LinkNumber links × (at + 104 ≤ length (now out)) ⌝ }
+    ensures { λ r. ⌜ Laid (inserts links) at (now (out .entry)) (now (out .exit)) r ⌝ }
+{
     let mut end = lay_field(out, at, b"  longest insert ", longest_insert(links));
     end = lay_field(out, end, b"  per insert ", per_insert(links));
     lay_field(out, end, b"  per packing ", per_packing(links))
 }
 
-fn lay_line(out: &mut [u8], at: usize, links: usize) -> usize {
+// Of links that no queue has yet, the longest take alone.
+fn lay_line(out: &mut [u8], at: usize, links: usize) -> usize
+    requires { ⌜ (1 ≤ links) × (links ≤ 5) × (at + 251 ≤ length (now out)) ⌝ }
+    ensures { λ r. ⌜ Laid (line links) at (now (out .entry)) (now (out .exit)) r ⌝ }
+{
     let mut end = lay_field(out, at, b"links ", links);
     if links <= Link::MOST {
         end = lay_sizes(out, end, links);
@@ -107,14 +154,23 @@ fn lay_line(out: &mut [u8], at: usize, links: usize) -> usize {
     text::lay(out, end, b"\n")
 }
 
-fn main() {
-    let mut out = [0u8; 2048];
+// The lines for one to five links.
+fn lay_lines(out: &mut [u8]) -> usize
+    requires { ⌜ 1255 ≤ length (now out) ⌝ }
+    ensures { λ r. ⌜ Laid (linesFrom 1 5) 0 (now (out .entry)) (now (out .exit)) r ⌝ }
+{
     let mut end = 0;
     let mut links = 1;
     while links <= 5 {
-        end = lay_line(&mut out, end, links);
+        end = lay_line(out, end, links);
         links += 1;
     }
+    end
+}
+
+fn main() {
+    let mut out = [0u8; 1255];
+    let end = lay_lines(&mut out);
     let written = io::write_all(libc::STDOUT_FILENO, &out[..end]);
     if !written {
         os::fail(b"write");

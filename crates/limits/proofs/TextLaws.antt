@@ -1,0 +1,2 @@
+-- Lines behind lines.
+use Prim.Native.Nat.{ℕ}
