@@ -1,3 +1,4 @@
 pub mod SizeLaws
 pub mod RisenLaws
-pub mod TextLaws
+pub mod LinkLaws
+pub mod FieldLaws

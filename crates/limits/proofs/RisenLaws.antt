@@ -1,16 +1,16 @@
 -- What filling B(i) once can cost, level by level.
-use Prim.Native.Nat.{ℕ, zero, suc, _+_, _*_, _^_, _≤_, _<_}
+use Prim.Native.Nat.{ℕ, zero, suc, _+_, _-_, _*_, _^_, _≤_, _<_}
 use mathlib.Core.Path.{_≡_, refl, sym, ap, _∙_}
 use mathlib.Core.List.{List, [], _∷_, _++_}
 use native.Mathlib.Omega.{arith}
-use native.Mathlib.Nat.{two-pow-succ}
+use native.Mathlib.Nat.{two-pow-succ, mul-le-mul-left}
 use lib.ListN.{length, getD, drop, length-drop, List·getD-append}
 use lib.Seq.{drop-cons, drop-length}
 use lib.Pow.{pow-pos}
 use Rattle.rules.specs.Links.{s, k, height, levels, first, capacity}
 use Rattle.rules.specs.Tree.{heightOf, perfect, kMerger}
 use Rattle.rules.specs.Longest.{risen}
-use Rattle.rules.proofs.Sizes.{length-levels}
+use Rattle.rules.proofs.Sizes.{k-power, length-levels}
 use Rattle.rules.proofs.Heights.{perfect-height}
 use Rattle.rules.proofs.Capacity.{depth-is}
 
@@ -79,3 +79,40 @@ module _ (i : ℕ) (link : 0 < i) where
   pub rest-all : restFrom i (height i) 1 ≡ risen (kMerger i)
   unfolding kMerger
   rest-all = omega (arith, rest-part (height i) 0 1 refl (omega arith))
+
+-- ---- level by level
+
+-- so much is summed, and below the j buffers of a level stand so many levels
+pub record Summed (i levels j total : ℕ) : Type 0 where
+  pub kept : total + restFrom i levels j ≡ risen (kMerger i)
+  pub doubled : j * 2 ^ levels ≡ k i
+  pub some : 0 < j
+
+pub summed-first : (i : ℕ) → 0 < i → (levels : ℕ) → levels ≡ height i → Summed i levels 1 0
+summed-first i link levels e = record { kept = rw e (omega (arith, rest-all i link)); doubled = rw (e, k-power i) (omega arith); some = omega arith }
+
+-- the level that comes next: it is of the link, and what it adds is part of the whole
+pub record NextLevel (i levels j total : ℕ) : Type 0 where
+  pub inner : j < k i
+  pub each : j * capacity i j ≤ j * capacity i j * levels
+  pub whole : total + j * capacity i j * levels ≤ risen (kMerger i)
+  pub then : Summed i (levels - 1) (2 * j) (total + j * capacity i j * levels)
+
+pub next-level : (i levels j total : ℕ) → Summed i levels j total → 0 < levels → NextLevel i levels j total
+unfolding restFrom
+next-level i zero j total sum more = absurd (omega arith)
+next-level i (suc l) j total sum more =
+    let up : j * 2 ^ suc l ≡ 2 * j * 2 ^ l = rw two-pow-succ (omega arith) in
+    let large : 2 * j * 1 ≤ 2 * j * 2 ^ l = mul-le-mul-left (2 * j) (pow-pos l) in
+    let same : suc l - 1 ≡ l = omega arith in
+    record {
+      inner = omega (arith, up, large, sum .doubled, sum .some);
+      each = omega (arith, mul-le-mul-left (j * capacity i j) more);
+      whole = omega (arith, sum .kept);
+      then = rw same (record { kept = omega (arith, sum .kept); doubled = omega (arith, up, sum .doubled); some = omega (arith, sum .some) });
+    }
+
+-- with no level left it is all
+pub summed-last : (i levels j total : ℕ) → Summed i levels j total → levels ≡ 0 → total ≡ risen (kMerger i)
+unfolding restFrom
+summed-last i levels j total sum none = let rest : restFrom i levels j ≡ 0 = ap (λ l. restFrom i l j) none in omega (arith, sum .kept)

@@ -2,19 +2,19 @@
 use Prim.Native.Nat.{ℕ, suc, _+_, _*_, _^_, _≤_, _<_}
 use mathlib.Core.Path.{_≡_, sym, ap, _∙_}
 use mathlib.Core.Bool.{Bool}
-use mathlib.Core.List.{[], _∷_}
+use mathlib.Core.List.{List, [], _∷_}
 use native.Mathlib.Omega.{arith}
 use native.Mathlib.Nat.{two-pow-succ}
 use lib.Dec.{T, leb, leb→le, eqb, eqb→eq}
 use lib.ListN.{getD}
 use lib.Pow.{pow-pos, pow-mono}
 use Rattle.rules.specs.Tests.{every}
-use Rattle.rules.specs.Links.{k, height, capacity, most}
+use Rattle.rules.specs.Links.{k, height, capacity, most, InLink}
 use Rattle.rules.specs.Tree.{kMerger}
 use Rattle.rules.specs.Bounds.{perInsert}
 use Rattle.rules.specs.Longest.{risen, longestTake}
 use Rattle.rules.proofs.Table.{every-at}
-use Rattle.rules.proofs.Sizes.{by-leb}
+use Rattle.rules.proofs.Sizes.{by-leb, k-power}
 
 -- at most so much, of one to five links
 at-most-five : (f : ℕ → ℕ) (m : ℕ) → T (every (λ i. leb (f i) m) 1 5) → (i : ℕ) → 1 ≤ i → i ≤ 5 → f i ≤ m
@@ -41,6 +41,10 @@ pub most-few : (links : ℕ) → 1 ≤ links → links ≤ 4 → most links ≤ 
 unfolding every most
 most-few links low high = leb→le (most links) 17280 (every-at (λ l. leb (most l) 17280) 1 4 tt links low (omega arith))
 
+pub most-some : (links : ℕ) → 1 ≤ links → links ≤ 4 → 8 ≤ most links
+unfolding every most
+most-some links low high = leb→le 8 (most links) (every-at (λ l. leb 8 (most l)) 1 4 tt links low (omega arith))
+
 -- ---- the fifth link
 
 -- "k .. 32"
@@ -48,21 +52,54 @@ pub fifth-k : {i : ℕ} → i ≡ 5 → 32 ≡ k i
 unfolding k
 fifth-k e = sym (ap k e)
 
--- so many buffers of one size, from number lo on
-pub fifth : (lo many size : ℕ) → T (every (λ j. eqb size (capacity 5 j)) lo many) → {i j : ℕ} → i ≡ 5 → lo ≤ j → j < lo + many → size ≡ capacity i j
-fifth lo many size t {i} {j} e low high =
-    eqb→eq size (capacity 5 j) (every-at (λ j. eqb size (capacity 5 j)) lo many t j low high) ∙ ap (λ i. capacity i j) (sym e)
+-- "32,768 .. 8, 23, 182, 8": level r has so many buffers of one size, from a number on
+abbrev sizes : List ℕ
+sizes = 32768 ∷ 8 ∷ 23 ∷ 182 ∷ 8 ∷ []
+
+abbrev many : List ℕ
+many = 2 ∷ 2 ∷ 4 ∷ 8 ∷ 16 ∷ []
+
+abbrev lows : List ℕ
+lows = 0 ∷ 2 ∷ 4 ∷ 8 ∷ 16 ∷ []
+
+levelRight : ℕ → Bool
+unfolding every
+levelRight r = every (λ j. eqb (getD sizes r 0) (capacity 5 j)) (getD lows r 0) (getD many r 0)
+
+levels-right : T (every levelRight 0 5)
+unfolding every levelRight capacity
+levels-right = tt
+
+pub fifth : (r : ℕ) → T (leb (suc r) 5) → {i j : ℕ} → i ≡ 5 → getD lows r 0 ≤ j → j < getD lows r 0 + getD many r 0 → getD sizes r 0 ≡ capacity i j
+unfolding levelRight
+fifth r known {i} {j} e low high =
+    let size = getD sizes r 0 in
+    let level = every-at levelRight 0 5 levels-right r (omega arith) (leb→le (suc r) 5 known) in
+    eqb→eq size (capacity 5 j) (every-at (λ j. eqb size (capacity 5 j)) (getD lows r 0) (getD many r 0) level j low high) ∙ ap (λ i. capacity i j) (sym e)
+
+-- a buffer that is no S of a link that a queue has
+pub no-s : (i j : ℕ) → 1 ≤ i → i ≤ 4 → j < k i → InLink i j
+no-s i j low high less = record { link = record { low = low; high = high }; below = omega arith; few = omega (arith, k-few i low (omega arith)) }
 
 -- "2n .. 6n .. 13n .. 22n"
 pub per-insert-at : (n : ℕ) {links : ℕ} → links ≡ n → getD (0 ∷ 2 ∷ 6 ∷ 13 ∷ 22 ∷ []) n 0 ≡ perInsert links
 unfolding perInsert
 per-insert-at n e = ap perInsert (sym e)
 
--- ---- powers of two
+-- ---- k(i) is two to the height
 
 -- the smaller power has the smaller exponent
-pub power-below : (a b : ℕ) → 2 ^ a < 2 ^ b → a < b
+power-below : (a b : ℕ) → 2 ^ a < 2 ^ b → a < b
 power-below a b h = by-leb b a (λ t. a < b) (λ l. absurd (omega (arith, pow-mono {i = b} {j = a} l))) (λ l. l)
 
-pub power-within : (a b : ℕ) → 2 ^ a ≤ 2 ^ b → a ≤ b
+power-within : (a b : ℕ) → 2 ^ a ≤ 2 ^ b → a ≤ b
 power-within a b h = by-leb a b (λ t. a ≤ b) (λ l. l) (λ l. absurd (omega (arith, pow-mono {i = suc b} {j = a} l, two-pow-succ b, pow-pos b)))
+
+module _ (i levels inputs all : ℕ) (low : 1 ≤ i) (high : i ≤ 5) (is : all ≡ k i) (doubled : inputs ≡ 2 ^ levels) where
+  -- with fewer inputs than S there is another level
+  pub level-left : inputs < all → (levels < height i) × (inputs < 32)
+  level-left less = (power-below levels (height i) (omega (arith, k-power i)), omega (arith, k-few i low high))
+
+  -- and with as many there is none
+  pub no-level-left : all ≤ inputs → levels ≤ height i → levels ≡ height i
+  no-level-left enough most = let least : height i ≤ levels = power-within (height i) levels (omega (arith, k-power i)) in omega arith

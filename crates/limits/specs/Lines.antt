@@ -1,9 +1,9 @@
 -- The lines that `limits` prints: what there is to know of a queue of so many links before it is set up.
-use Prim.Native.Nat.{ℕ}
+use Prim.Native.Nat.{ℕ, zero, suc}
 use Prim.Native.String.{String}
 use mathlib.Core.Path.{_≡_, refl}
 use mathlib.Core.Bool.{true, false}
-use mathlib.Core.List.{List, [], _∷_, _++_, map, flatten}
+use mathlib.Core.List.{List, [], _∷_, _++_, map}
 use lib.Dec.{leb}
 use Rattle.rules.specs.Links.{mostLinks, most, words, from}
 use Rattle.rules.specs.Bounds.{perInsert, perPacking}
@@ -22,36 +22,33 @@ unfolding mostLinks
 ifThere links text = elim (leb links mostLinks) [ true ↦ text | false ↦ [] ]
 
 unfoldable pub sizes : ℕ → List ℕ
-unfolding field words most
-sizes links = field "  array " (words links) ++ field "  work " (most links) ++ field "  entries " (most links)
+unfolding ifThere field words most
+sizes links = ifThere links (field "  array " (words links) ++ field "  work " (most links) ++ field "  entries " (most links))
 
 unfoldable pub inserts : ℕ → List ℕ
-unfolding field longestInsert perInsert perPacking
-inserts links = field "  longest insert " (longestInsert links) ++ field "  per insert " (perInsert links) ++ field "  per packing " (perPacking links)
+unfolding ifThere field longestInsert perInsert perPacking
+inserts links = ifThere links (field "  longest insert " (longestInsert links) ++ field "  per insert " (perInsert links) ++ field "  per packing " (perPacking links))
 
 unfoldable pub line : ℕ → List ℕ
-unfolding field ifThere sizes longestTake inserts bytes
-line links = field "links " links ++ ifThere links (sizes links) ++ field "  longest take " (longestTake links) ++ ifThere links (inserts links) ++ bytes "\n"
+unfolding field sizes longestTake inserts bytes
+line links = field "links " links ++ sizes links ++ field "  longest take " (longestTake links) ++ inserts links ++ bytes "\n"
 
--- n lines from so many links on
-unfoldable pub linesFrom : ℕ → ℕ → List ℕ
-unfolding line from
-linesFrom links n = flatten (map line (from links n))
+-- those for one to so many links
+unfoldable pub linesTo : ℕ → List ℕ
+unfolding line
+linesTo zero = []
+linesTo (suc links) = linesTo links ++ line (suc links)
 
 -- ---- computed
 
-pub a1 : bytes "\n" ≡ 10 ∷ []
-unfolding bytes
-a1 = refl
-
-pub a2 : field "links " 5 ≡ bytes "links 5"
-unfolding bytes field
-a2 = refl
-
-pub a3 : line 5 ≡ bytes "links 5  longest take 223488\n"
-unfolding line
-a3 = refl
-
-pub a4 : line 1 ≡ bytes "links 1  array 296  work 16  entries 16  longest take 16  longest insert 16  per insert 2  per packing 32\n"
-unfolding line
-a4 = refl
+pub fiveLines : map line (from 1 5) ≡
+    map bytes (
+    "links 1  array 296  work 16  entries 16  longest take 16  longest insert 16  per insert 2  per packing 32\n"
+    ∷ "links 2  array 536  work 96  entries 96  longest take 224  longest insert 352  per insert 6  per packing 384\n"
+    ∷ "links 3  array 2628  work 960  entries 960  longest take 2396  longest insert 5712  per insert 13  per packing 5760\n"
+    ∷ "links 4  array 28436  work 17280  entries 17280  longest take 23500  longest insert 138176  per insert 22  per packing 138240\n"
+    ∷ "links 5  longest take 223488\n"
+    ∷ []
+    )
+unfolding line bytes from
+fiveLines = refl

@@ -9,7 +9,7 @@ ghost use Rattle.rules.specs.Bounds.{perInsert, perPacking};
 ghost use Rattle.rules.specs.Longest.{risen, longestTake, longestInsert};
 ghost use Rattle.text.specs.Decimal.{decimal};
 ghost use Rattle.text.specs.Laid.{Laid};
-ghost use Rattle.limits.specs.Lines.{sizes, inserts, line, linesFrom};
+ghost use Rattle.limits.specs.Lines.{sizes, inserts, line, linesTo};
 use rules::Link;
 
 // How many S link i has; the fifth link's sizes stand here until a queue may have it.
@@ -113,16 +113,19 @@ fn per_packing(links: usize) -> usize
 // A label, and a number in decimal.
 fn lay_field(out: &mut [u8], at: usize, label: &[u8], n: usize) -> usize
     requires { ⌜ at + length (now label) + 20 ≤ length (now out) ⌝ }
-    ensures { λ r. ⌜ Laid (now (label .entry) ++ decimal n) at (now (out .entry)) (now (out .exit)) r ⌝ }
+    ensures { λ r. ⌜ Laid (now (label .entry) ++ decimal n) at (now (out .entry)) (now (out .exit)) r × (r ≤ at + length (now (label .entry)) + 20) ⌝ }
 {
     let end = text::lay(out, at, label);
     text::lay_number(out, end, n as u64)
 }
 
 fn lay_sizes(out: &mut [u8], at: usize, links: usize) -> usize
-    requires { ⌜ LinkNumber links × (at + 85 ≤ length (now out)) ⌝ }
-    ensures { λ r. ⌜ Laid (sizes links) at (now (out .entry)) (now (out .exit)) r ⌝ }
+    requires { ⌜ (1 ≤ links) × (at + 85 ≤ length (now out)) ⌝ }
+    ensures { λ r. ⌜ Laid (sizes links) at (now (out .entry)) (now (out .exit)) r × (r ≤ at + 85) ⌝ }
 {
+    if links > Link::MOST {
+        return at;
+    }
     let last = Link::at(links);
     let mut end = lay_field(out, at, b"  array ", last.words());
     end = lay_field(out, end, b"  work ", last.most());
@@ -130,9 +133,12 @@ fn lay_sizes(out: &mut [u8], at: usize, links: usize) -> usize
 }
 
 fn lay_inserts(out: &mut [u8], at: usize, links: usize) -> usize
-    requires { ⌜ LinkNumber links × (at + 104 ≤ length (now out)) ⌝ }
-    ensures { λ r. ⌜ Laid (inserts links) at (now (out .entry)) (now (out .exit)) r ⌝ }
+    requires { ⌜ (1 ≤ links) × (at + 104 ≤ length (now out)) ⌝ }
+    ensures { λ r. ⌜ Laid (inserts links) at (now (out .entry)) (now (out .exit)) r × (r ≤ at + 104) ⌝ }
 {
+    if links > Link::MOST {
+        return at;
+    }
     let mut end = lay_field(out, at, b"  longest insert ", longest_insert(links));
     end = lay_field(out, end, b"  per insert ", per_insert(links));
     lay_field(out, end, b"  per packing ", per_packing(links))
@@ -141,23 +147,19 @@ fn lay_inserts(out: &mut [u8], at: usize, links: usize) -> usize
 // Of links that no queue has yet, the longest take alone.
 fn lay_line(out: &mut [u8], at: usize, links: usize) -> usize
     requires { ⌜ (1 ≤ links) × (links ≤ 5) × (at + 251 ≤ length (now out)) ⌝ }
-    ensures { λ r. ⌜ Laid (line links) at (now (out .entry)) (now (out .exit)) r ⌝ }
+    ensures { λ r. ⌜ Laid (line links) at (now (out .entry)) (now (out .exit)) r × (r ≤ at + 251) ⌝ }
 {
     let mut end = lay_field(out, at, b"links ", links);
-    if links <= Link::MOST {
-        end = lay_sizes(out, end, links);
-    }
+    end = lay_sizes(out, end, links);
     end = lay_field(out, end, b"  longest take ", longest_take(links));
-    if links <= Link::MOST {
-        end = lay_inserts(out, end, links);
-    }
+    end = lay_inserts(out, end, links);
     text::lay(out, end, b"\n")
 }
 
 // The lines for one to five links.
 fn lay_lines(out: &mut [u8]) -> usize
     requires { ⌜ 1255 ≤ length (now out) ⌝ }
-    ensures { λ r. ⌜ Laid (linesFrom 1 5) 0 (now (out .entry)) (now (out .exit)) r ⌝ }
+    ensures { λ r. ⌜ Laid (linesTo 5) 0 (now (out .entry)) (now (out .exit)) r × (r ≤ 1255) ⌝ }
 {
     let mut end = 0;
     let mut links = 1;

@@ -1,23 +1,20 @@
+-- Each arm is a row of the table.
+use native.Mathlib.Omega.{arith}
+use Rattle.limits.proofs.SizeLaws.{per-insert-at}
 use Rattle.limits.proofs.per_insert.Statement.{statement}
 use Rattle.limits.proofs.per_insert.Tie as tie
-use Rattle.limits.proofs.per_insert.Reads as reads
-use Rattle.limits.proofs.per_insert.Lts as lts
 
--- src/main.rt:94:1
 returns : tie.Need-returns
-returns c = ?
+returns c = per-insert-at 2 (omega arith)
 
--- src/main.rt:94:1
 returns-2 : tie.Need-returns-2
-returns-2 c = ?
+returns-2 c = per-insert-at 3 (omega arith)
 
--- src/main.rt:94:1
 returns-3 : tie.Need-returns-3
-returns-3 c = ?
+returns-3 c = per-insert-at 1 (omega arith)
 
--- src/main.rt:94:1
 returns-4 : tie.Need-returns-4
-returns-4 c = ?
+returns-4 c = per-insert-at 4 (omega arith)
 
 pub per-insert-spec : {M : Type 1} → statement M
 per-insert-spec = tie.close (tie.spec returns returns-2 returns-3 returns-4)

@@ -1,2 +1,0 @@
--- Lines behind lines.
-use Prim.Native.Nat.{ℕ}
