@@ -103,4 +103,4 @@ pub take-rows : (l t : ℕ) → t ≤ longestTake l → (l ≡ 1 → t ≤ 16) �
 unfolding longestTake
 take-rows l t h =
     let at : (m : ℕ) → l ≡ m → t ≤ longestTake m = λ m e. subst (λ l. t ≤ longestTake l) e h in
-    (at 1, at 2, at 3, at 4)
+    (λ e. omega (arith, at 1 e), λ e. omega (arith, at 2 e), λ e. omega (arith, at 3 e), λ e. omega (arith, at 4 e))

@@ -74,8 +74,8 @@ module _ (key : ℕ → ℕ) {A B : Type 0} (ha : A → ℕ) (Ga : A → Type 0)
     run-once (suc room) within out xs ys a b d e p q =
         let x = refill f xs a in
         let y = refill g ys b in
-        let px = refill-due ha Ga ca f room most fa within xs a p in
-        let py = refill-due hb Gb cb g room most gb within ys b q in
+        let px = refill-due ha Ga ca f room most fa (omega arith) xs a p in
+        let py = refill-due hb Gb cb g room most gb (omega arith) ys b q in
         omega (
           arith,
           step-once room (mergeInto key f g room) (run-once room (omega arith)) out (x .steps + y .steps) (x .contents .1) (y .contents .1) (px .left) (py .left)
