@@ -23,10 +23,10 @@
 #include <stdint.h>
 
 /* The version of header and library; CHANGELOG.md says what each changed. */
-#define GORGALHUT_VERSION "0.3.0"
+#define GORGALHUT_VERSION "0.3.1"
 #define GORGALHUT_VERSION_MAJOR 0
 #define GORGALHUT_VERSION_MINOR 3
-#define GORGALHUT_VERSION_PATCH 0
+#define GORGALHUT_VERSION_PATCH 1
 
 #ifdef __cplusplus
 extern "C" {
@@ -97,7 +97,9 @@ static inline uint32_t gorgalhut_entry_command(uint64_t entry) {
     return (uint32_t)(entry & 0xFFFFFFu);
 }
 
-/* ---- the six calls: the answer's number comes back; *word and *steps (merge steps made) are always written */
+/* ---- the six calls: the answer's number comes back; *word and *steps (merge steps made) are always written.
+ * Whatever the array has, with 1 to 4 links one take or look makes at most 16, 224, 2396 or 23500 merge steps, one
+ * insert at most 16, 352, 5712 or 138176, and every other call none. */
 
 /* Makes an empty queue of so many links in the array, whatever stood there; answers 0, 1 or 2. */
 uint8_t gorgalhut_setup(uint64_t *array, size_t array_words, uint64_t links, uint64_t *word, uint64_t *steps);

@@ -7,6 +7,7 @@ use crate::tally::Tally;
 use reference::array::calls::{expected, Call};
 use reference::array::generate::{Arrays, Sample};
 use reference::array::{link_number, verdict};
+use reference::machine::Outcome;
 
 /// Compares the arrays of a seed; gives their source back.
 pub fn compare(
@@ -35,7 +36,7 @@ const TAKES: [Call; 3] = [Call::Take, Call::Look, Call::Held];
 /// The calls of a group to be made on an array, each on a copy of its own.
 fn calls_on(group: Group, source: &mut Arrays, words: &[u64]) -> Vec<Call> {
     match group {
-        Group::Book | Group::Abuse | Group::Frames | Group::Joins => Vec::new(),
+        Group::Book | Group::Abuse | Group::Longest | Group::Frames | Group::Joins => Vec::new(),
         Group::Takes => TAKES.to_vec(),
         Group::Calls => {
             let setup = Call::Setup(source.some_setup(words.len()));
@@ -63,13 +64,24 @@ fn compare_array(
         memory.check_book(words, sound)?;
     }
     for &call in calls {
-        let wanted = expected(words, call);
-        memory.array.load(words);
-        memory
-            .check_call(words, call, &wanted.outcome, wanted.after.as_ref())
-            .map_err(|difference| format!("{call:x?}: {difference}"))?;
-        tally.add_call(call, &wanted.outcome);
+        compare_call(words, call, memory, tally)?;
     }
     tally.add_array(sample.kind, link_number(words), sound);
     Ok(())
+}
+
+/// One call on a copy of the array; gives what came of it.
+pub fn compare_call(
+    words: &[u64],
+    call: Call,
+    memory: &mut Memory,
+    tally: &mut Tally,
+) -> Result<Outcome, String> {
+    let wanted = expected(words, call);
+    memory.array.load(words);
+    memory
+        .check_call(words, call, &wanted.outcome, wanted.after.as_ref())
+        .map_err(|difference| format!("{call:x?}: {difference}"))?;
+    tally.add_call(call, &wanted.outcome);
+    Ok(wanted.outcome)
 }

@@ -3,7 +3,10 @@
 use crate::lent::Lent;
 use crate::library::{self, Got};
 use reference::array::calls::Call;
-use reference::array::{broken_rules, decode, stretches, FIRST_BUFFER_WORD, FIRST_COUNTER_WORD};
+use reference::array::{
+    broken_rules, decode, link_number, stretches, FIRST_BUFFER_WORD, FIRST_COUNTER_WORD,
+};
+use reference::limits::{longest_insert, longest_take};
 use reference::links::{array_words, most_held, BOOK_WORDS, MOST_LINKS};
 use reference::machine::Outcome;
 use reference::queue::Queue;
@@ -66,6 +69,7 @@ impl Memory {
         }
         self.work.load(&self.work_before[..work_words]);
         let got = library::call(&mut self.array, &mut self.work, call, !expected.packed);
+        check_limit(before, call, got.steps)?;
         check_results(expected, got)?;
         if expected.answer != 0 && self.work.contents() != &self.work_before[..work_words] {
             return Err("a refusal wrote into the work area".to_string());
@@ -117,6 +121,21 @@ impl Memory {
         check_words(before, words, kept..before.len(), "word that stays")?;
         check_unused(before, words, queue.links)
     }
+}
+
+/// How long one take, look or insert can run, whatever is in the array. Without a link
+/// number it is refused.
+fn check_limit(before: &[u64], call: Call, steps: u64) -> Result<(), String> {
+    let links = link_number(before);
+    let most = match call {
+        Call::Take | Call::Look => links.map_or(0, longest_take),
+        Call::Insert(..) => links.map_or(0, longest_insert),
+        Call::Setup(_) | Call::Held | Call::Audit => return Ok(()),
+    };
+    if steps <= most {
+        return Ok(());
+    }
+    Err(format!("{steps} steps, and the limit is {most}"))
 }
 
 fn check_results(expected: &Outcome, got: Got) -> Result<(), String> {

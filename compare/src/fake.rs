@@ -335,6 +335,9 @@ fn wrong_result(words: &[u64], call: Call, outcome: &mut Outcome) {
     if (fault("steps") && outcome.steps > 30) || (fault("late") && accepted && since > 200) {
         outcome.steps += 1;
     }
+    if fault("above-limit") && outcome.steps > 0 {
+        outcome.steps += 200_000;
+    }
     if fault("refusal-word") && outcome.answer == 6 {
         outcome.word = 1;
     }

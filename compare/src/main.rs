@@ -16,6 +16,7 @@ mod frames;
 mod joins;
 mod lent;
 mod library;
+mod longest;
 mod options;
 mod runs;
 mod sessions;
@@ -35,6 +36,7 @@ fn built_in(group: Group) -> bool {
         Group::Calls => cfg!(feature = "calls"),
         Group::Insert => cfg!(feature = "insert"),
         Group::Abuse => built_in(Group::Calls) && built_in(Group::Insert),
+        Group::Longest => built_in(Group::Takes) && built_in(Group::Insert),
         Group::Frames => cfg!(feature = "frames"),
         Group::Joins => cfg!(feature = "joins"),
     }
@@ -44,13 +46,14 @@ fn compare(options: &Options, tally: &mut Tally) -> Result<(), String> {
     let mut memory = Memory::new(options.trace, options.exact);
     match options.group {
         Group::Abuse => return abuse::compare(options, &mut memory, tally),
+        Group::Longest => return longest::compare(options, &mut memory, tally),
         Group::Frames => return frames::compare(options, tally),
         Group::Joins => return joins::compare(options, tally),
         _ => {}
     }
     let mut source = arrays::compare(options, &mut memory, tally)?;
     match options.group {
-        Group::Book | Group::Abuse | Group::Frames | Group::Joins => Ok(()),
+        Group::Book | Group::Abuse | Group::Longest | Group::Frames | Group::Joins => Ok(()),
         Group::Takes | Group::Calls => sessions::emptying(options, &mut source, &mut memory, tally),
         Group::Insert if built_in(Group::Calls) => sessions::whole(options, &mut memory, tally),
         Group::Insert => {

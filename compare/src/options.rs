@@ -8,6 +8,7 @@ pub enum Group {
     Calls,
     Insert,
     Abuse,
+    Longest,
     Frames,
     Joins,
 }
@@ -34,6 +35,7 @@ compare takes              take, look and held
 compare calls              these three, setup and audit
 compare insert             insert, and whole sessions if calls are built in
 compare abuse              all six calls, mixed, on arrays that stay as they were left
+compare longest            take, look and insert on sound books, and how long they run
 compare frames             lines read and written, and the tally
 compare joins              two runs joined, and a part of them merged
   --arrays N               how many arrays (1000)
@@ -54,6 +56,7 @@ pub fn read_options(arguments: &[String]) -> Result<Options, String> {
         Some("calls") => Group::Calls,
         Some("insert") => Group::Insert,
         Some("abuse") => Group::Abuse,
+        Some("longest") => Group::Longest,
         Some("frames") => Group::Frames,
         Some("joins") => Group::Joins,
         _ => return Err(format!("what to compare is needed\n{HELP}")),

@@ -2,6 +2,7 @@
 
 use reference::array::calls::Call;
 use reference::array::generate::Kind;
+use reference::limits::{longest_insert, longest_take};
 use reference::machine::Outcome;
 use std::collections::BTreeMap;
 use std::fmt::{self, Display, Formatter};
@@ -19,6 +20,9 @@ pub struct Tally {
     with_steps: usize,
     steps: u64,
     session_calls: usize,
+    /// For each link number, the most steps of a take or look and of an insert: on any
+    /// sound books, and on all.
+    longest: BTreeMap<usize, [[u64; 2]; 2]>,
     lines: usize,
     /// Joins and parts.
     joins: BTreeMap<&'static str, Joins>,
@@ -66,6 +70,14 @@ impl Tally {
         self.session_calls += 1;
     }
 
+    pub fn add_longest(&mut self, links: usize, any: bool, call: Call, steps: u64) {
+        let insert = matches!(call, Call::Insert(..));
+        let most = self.longest.entry(links).or_default();
+        for row in &mut most[usize::from(!any)..] {
+            row[usize::from(insert)] = steps.max(row[usize::from(insert)]);
+        }
+    }
+
     /// A line read, an order and an answer line written, and a call told to the tally.
     pub fn add_line(&mut self) {
         self.lines += 1;
@@ -80,6 +92,23 @@ impl Tally {
         }
         joins.done += 1;
         block.into_iter().for_each(|run| joins.blocks[run] += 1);
+    }
+
+    fn write_longest(&self, out: &mut Formatter) -> fmt::Result {
+        for (links, [[take, insert], _]) in &self.longest {
+            writeln!(
+                out,
+                "links {links}, any sound book: take {take}, insert {insert}"
+            )?;
+        }
+        for (&links, [_, [take, insert]]) in &self.longest {
+            let (take_limit, insert_limit) = (longest_take(links), longest_insert(links));
+            writeln!(
+                out,
+                "links {links}: take {take} of {take_limit}, insert {insert} of {insert_limit}"
+            )?;
+        }
+        Ok(())
     }
 
     fn write_joins(&self, out: &mut Formatter) -> fmt::Result {
@@ -134,6 +163,6 @@ impl Display for Tally {
         if self.packings > 0 {
             writeln!(out, "  packed: {}", self.packings)?;
         }
-        Ok(())
+        self.write_longest(out)
     }
 }

@@ -86,6 +86,17 @@ fn faults_of_the_results() {
     }
 }
 
+/// A limit is told before the results are compared.
+#[test]
+fn steps_above_the_limit() {
+    for (group, told) in [("takes", "Take"), ("calls", "Take"), ("insert", "Insert(")] {
+        let report = seen(group, "above-limit");
+        assert!(report.contains(&format!(": {told}")), "{report}");
+        assert!(report.contains(" steps, and the limit is "), "{report}");
+    }
+    seen_in_calls("abuse", "above-limit", " steps, and the limit is ");
+}
+
 /// Everything that is compared of a call is compared of each.
 #[test]
 fn faults_of_one_call_alone() {
@@ -222,6 +233,46 @@ fn a_difference_is_found_again() {
         "take-ties",
     );
     assert_eq!(output.status.code(), Some(0));
+}
+
+const LONGEST: &str = "
+links 1: take 16 of 16, insert 16 of 16
+links 2: take 216 of 224, insert 352 of 352
+links 3: take 2358 of 2396, insert 5712 of 5712
+links 4: take 23262 of 23500, insert 138176 of 138176
+no difference
+";
+
+/// Few arrays are enough for the longest calls; the same seed gives the same report.
+#[test]
+fn longest_calls() {
+    for arrays in ["40", "400"] {
+        let arguments = ["longest", "--arrays", arrays, "--seed", "3"];
+        let [one, again] = [(); 2].map(|()| text(&compare(&arguments, "")));
+        assert!(one.starts_with(&format!("seed 3\narrays {arrays}\n")));
+        assert!(one.ends_with(LONGEST), "{one}");
+        assert_eq!(one, again);
+    }
+}
+
+#[test]
+fn faults_of_long_calls() {
+    for (fault, told, report) in [
+        ("steps", "Take", "expected Got"),
+        ("above-limit", "Take", " steps, and the limit is "),
+        ("take-word", "Take", "expected Got"),
+        ("look-unchanged", "Look", "expected queue"),
+        ("insert-steps", "Insert(", "expected Got"),
+        ("insert-entries", "Insert(", "expected queue"),
+        ("packed", "Insert(", "expected Got"),
+        ("stale-mark", "Take", "book rules broken: [Mark]"),
+        ("behind", "Take", "written 1 words behind the array"),
+    ] {
+        let found = seen("longest", fault);
+        assert!(found.starts_with("array "), "{fault}: {found}");
+        assert!(found.contains(&format!(", {told}")), "{fault}: {found}");
+        assert!(found.contains(report), "{fault}: {found}");
+    }
 }
 
 /// Runs a command that has calls instead of arrays; gives what it printed.

@@ -7,6 +7,7 @@ pub mod built;
 pub mod calls;
 pub mod damage;
 pub mod generate;
+pub mod longest;
 pub mod near;
 
 use crate::links::{array_words, link, most_held, BOOK_WORDS, INSERTION_SLOTS, MOST_LINKS};

@@ -112,10 +112,10 @@ impl Link {
     }
 }
 
-/// The link of this number, 1 to 4, computed once.
+/// The link of this number, 1 to 5, computed once; the fifth is only counted with.
 pub fn link(number: usize) -> &'static Link {
     static LINKS: OnceLock<Vec<Link>> = OnceLock::new();
-    let links = LINKS.get_or_init(|| (1..=MOST_LINKS).map(Link::compute).collect());
+    let links = LINKS.get_or_init(|| (1..=MOST_LINKS + 1).map(Link::compute).collect());
     &links[number - 1]
 }
 

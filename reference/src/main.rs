@@ -1,7 +1,8 @@
-//! The program: runs frames, or writes a generated session of frames.
+//! The program: runs frames, writes a generated session of frames, or prints limits.
 
 use reference::frames::run_frames;
 use reference::generate::session;
+use reference::limits;
 use reference::machine::Machine;
 use reference::options::{read_options, Options, HELP};
 use std::io::{self, BufWriter, ErrorKind, Write};
@@ -11,6 +12,8 @@ fn run(options: &Options) -> io::Result<()> {
     let mut output = BufWriter::new(io::stdout().lock());
     if options.help {
         output.write_all(HELP.as_bytes())?;
+    } else if options.limits {
+        output.write_all(limits::text().as_bytes())?;
     } else if options.generate {
         output.write_all(&session(options))?;
     } else {

@@ -4,6 +4,7 @@
 #[derive(Clone, Debug, PartialEq, Eq)]
 pub struct Options {
     pub help: bool,
+    pub limits: bool,
     pub counts: bool,
     pub generate: bool,
     pub plain: bool,
@@ -27,6 +28,7 @@ reference --generate       write a seeded random session of frames
                            for 4, give --array 28436 --work 17280 here as well
   --plain                  valid orders only, with many ties
   --array N, --work N      the memory the session is meant for, as above
+reference --limits         print how long one call can run, for each number of links
 reference --help           this text
 ";
 
@@ -35,6 +37,7 @@ impl Default for Options {
     fn default() -> Options {
         Options {
             help: false,
+            limits: false,
             counts: false,
             generate: false,
             plain: false,
@@ -54,6 +57,7 @@ pub fn read_options(arguments: &[String]) -> Result<Options, String> {
     while let Some(word) = words.next() {
         match word.as_str() {
             "--help" => options.help = true,
+            "--limits" => options.limits = true,
             "--counts" => options.counts = true,
             "--generate" => options.generate = true,
             "--plain" => options.plain = true,

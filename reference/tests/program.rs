@@ -110,7 +110,9 @@ fn generated_session_goes_through() {
 
 #[test]
 fn help_and_bad_options() {
-    assert!(answers(&["--help"], b"").contains("--generate"));
+    for option in ["--generate", "--limits"] {
+        assert!(answers(&["--help"], b"").contains(option));
+    }
     for bad in [
         &["--nothing"][..],
         &["--array"],
@@ -139,6 +141,11 @@ fn options_as_read() {
         ..Options::default()
     };
     assert_eq!(options, Ok(expected));
+    let limits = Options {
+        limits: true,
+        ..Options::default()
+    };
+    assert_eq!(read_options(&words("--limits")), Ok(limits));
     assert_eq!(read_options(&[]), Ok(Options::default()));
     let memory = (Options::default().array, Options::default().work);
     assert_eq!(memory, (2628, 960));

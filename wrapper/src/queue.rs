@@ -55,14 +55,14 @@ impl Links {
 #[derive(Clone, Copy, Debug, PartialEq, Eq)]
 pub struct Found {
     pub entry: Entry,
-    /// Merge steps made.
+    /// Merge steps made: at most 16, 224, 2,396 or 23,500 with one to four links.
     pub steps: u64,
 }
 
 /// An entry that was put in.
 #[derive(Clone, Copy, Debug, PartialEq, Eq)]
 pub struct Inserted {
-    /// Merge steps made.
+    /// Merge steps made: at most 16, 352, 5,712 or 138,176 with one to four links.
     pub steps: u64,
     /// Whether all entries were packed anew.
     pub packed: bool,

@@ -29,10 +29,10 @@ use Rattle.queue.proofs.AgreeLaws.{the-answer}
 use Rattle.demands.specs.Histories.{Call, Made, accepted, History, since, links, putIn, takenOut, inserts, takes, times, StillHeld}
 use Rattle.demands.specs.Exact.{Enough, WorkEnough, Sound, Answers, work-short, door-above, full, insert-done, take-done, look-done, held-done, audit-done, none-to-take, none-to-see}
 use Rattle.rules.proofs.Tests.{truth}
+use Rattle.rules.proofs.BoundLaws.{of-four}
 use Rattle.queue.proofs.CheckLaws.{unlike}
 use Rattle.demands.proofs.CallLaws.{timesHeld, held-word}
 use Rattle.demands.proofs.HistoryLaws.{stands}
-use Rattle.demands.proofs.BoundLaws.{of-four}
 use Rattle.demands.proofs.SmallestLaws.{times-held, number-held}
 use Rattle.demands.proofs.ExactLaws.{exactly}
 

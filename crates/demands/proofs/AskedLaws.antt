@@ -6,12 +6,12 @@ use lib.ListN.{length, drop}
 use mathlib.Core.Bool.{true}
 use mathlib.Core.List.{List, [], _∷_, _++_}
 use Rattle.rules.proofs.History.{since-fine, packings-bound}
+use Rattle.rules.proofs.BoundLaws.{few-steps, one-to-four}
 use Rattle.rules.specs.Calls.{queueOf}
 use Rattle.buffers.specs.Format.{linksIn, lentOf}
 use Rattle.demands.specs.Histories.{Call, Made, History, Sequence, none, more, hasSetup, fromSetup, since, links, packings, meanwhile}
 use Rattle.demands.specs.Asked.{EachCall, Held, Bounded, AtAnyTime, DemandTwo, DemandThree, Reports, NoLonger}
 use Rattle.demands.proofs.HistoryLaws.{stands}
-use Rattle.demands.proofs.BoundLaws.{few-steps, one-to-four}
 use Rattle.demands.proofs.LongestLaws.{call-longest}
 use Rattle.demands.proofs.SmallestLaws.{headOr, no-more, smallest-taken, smallest-seen}
 use Rattle.demands.proofs.AnswerLaws.{all-out, at-most, take-accepted, look-accepted, refused-empty, refused-look, held-counts, audit-done-now, insert-accepted, insert-short, insert-door, insert-full}

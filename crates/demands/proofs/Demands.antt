@@ -21,6 +21,7 @@ use Rattle.rules.specs.Examples.{insertOf, takeIt, lookAt, heldNow, auditIt, ca
 use Rattle.rules.proofs.AnswerLaws as numbers
 use Rattle.rules.proofs.EntryOrder.{Earlier}
 use Rattle.rules.proofs.History.{packings-bound}
+use Rattle.rules.proofs.BoundLaws.{few-steps, four-rows, one-to-four}
 use Rattle.buffers.specs.Format.{linksIn, bookOf, lentOf}
 use Rattle.buffers.specs.Post.{Unused}
 use Rattle.queue.proofs.AgreeLaws.{Agree}
@@ -47,7 +48,6 @@ use Rattle.gorgalhut.specs.Numbered as numbered
 use Rattle.gorgalhut.proofs.NumberedLaws.{means-nothing}
 use Rattle.demands.specs.Existence.{Exists}
 use Rattle.demands.proofs.HistoryLaws.{stands}
-use Rattle.demands.proofs.BoundLaws.{few-steps, four-rows, one-to-four}
 use Rattle.demands.proofs.SmallestLaws as smallest
 use Rattle.demands.proofs.SmallestLaws.{before, no-setup}
 use Rattle.demands.proofs.SequenceLaws.{from-setup, since-same, links-same}

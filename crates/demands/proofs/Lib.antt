@@ -1,6 +1,5 @@
 pub mod CallLaws
 pub mod HistoryLaws
-pub mod BoundLaws
 pub mod SmallestLaws
 pub mod ExactLaws
 pub mod AnswerLaws

@@ -15,11 +15,11 @@ use Rattle.rules.proofs.BookLaws.{Kept, sound-says}
 use Rattle.rules.proofs.BookKept.{Shaped}
 use Rattle.rules.proofs.LongestLaws.{take-longest, insert-longest}
 use Rattle.rules.proofs.Accepted.{Refusal, Long, take-cases, look-cases, insert-call-cases, held-cases, audit-cases}
+use Rattle.rules.proofs.BoundLaws.{of-four}
 use Rattle.buffers.specs.Format.{linksIn, bookOf, lentOf}
 use Rattle.buffers.proofs.Exact.{sound-inside}
 use Rattle.queue.proofs.BookLaws.{describes, shaped}
 use Rattle.demands.specs.Histories.{Call, Made}
-use Rattle.demands.proofs.BoundLaws.{of-four}
 use Rattle.demands.proofs.CallLaws.{setup-steps}
 
 -- no call runs longer than 138,176 steps

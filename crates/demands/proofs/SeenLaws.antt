@@ -14,6 +14,7 @@ use Rattle.rules.specs.Tests.{_or_}
 use Rattle.rules.specs.Bounds.{perPacking, stepsBound}
 use Rattle.rules.specs.Longest.{longestCall}
 use Rattle.rules.specs.Examples.{Order, setupOf, insertOf, takeIt, lookAt, heldNow, auditIt, call}
+use Rattle.rules.proofs.BoundLaws.{few-held}
 use Rattle.buffers.specs.Format.{lentOf}
 use Rattle.frames.specs.Digits.{number, digits}
 use Rattle.frames.proofs.DigitLaws.{number-digits}
@@ -25,7 +26,6 @@ use Rattle.demands.specs.Histories.{Call, accepted, begins, linksOf, Seq
 use Rattle.demands.specs.Asked.{EachCall, Held, Bounded, AtAnyTime, DemandTwo, DemandThree, NoLonger}
 use Rattle.demands.specs.Told.{seen, told, Tells, MadeSoFar, Packed, Reported}
 use Rattle.demands.proofs.HistoryLaws.{stands}
-use Rattle.demands.proofs.BoundLaws.{few-held}
 use Rattle.demands.proofs.SmallestLaws.{headOr}
 use Rattle.demands.proofs.AnswerLaws.{at-most}
 use Rattle.demands.proofs.SequenceLaws.{from-setup}

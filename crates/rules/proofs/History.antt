@@ -157,14 +157,3 @@ paid-four = paid-by 4 22 138240 (0 ∷ 160 ∷ 400 ∷ 1312 ∷ 2864 ∷ []) tt 
 pub paid-five : Paid 5 33 5875200 (λ i. getD (0 ∷ 248 ∷ 664 ∷ 2632 ∷ 14744 ∷ 63400 ∷ []) i 0)
 unfolding every paidTest height most outputsMost carried s k capacity
 paid-five = paid-by 5 33 5875200 (0 ∷ 248 ∷ 664 ∷ 2632 ∷ 14744 ∷ 63400 ∷ []) tt (lit≤ tt)
-
--- the four rows at once
-pub steps-bounds : {n p t : ℕ} {q : Queue}
-    → (Since 1 n p t q → t ≤ 2 * n + 32 * p) × (Since 2 n p t q → t ≤ 6 * n + 384 * p) × (Since 3 n p t q → t ≤ 13 * n + 5760 * p) × (Since 4 n p t q → t ≤ 22 * n + 138240 * p)
-unfolding isLinkNumber
-steps-bounds = (
-  steps-bound 1 tt 2 32 (λ i. getD (0 ∷ 0 ∷ []) i 0) paid-one,
-  steps-bound 2 tt 6 384 (λ i. getD (0 ∷ 32 ∷ 16 ∷ []) i 0) paid-two,
-  steps-bound 3 tt 13 5760 (λ i. getD (0 ∷ 88 ∷ 184 ∷ 232 ∷ []) i 0) paid-three,
-  steps-bound 4 tt 22 138240 (λ i. getD (0 ∷ 160 ∷ 400 ∷ 1312 ∷ 2864 ∷ []) i 0) paid-four,
-)

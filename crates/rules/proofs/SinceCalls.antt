@@ -1,6 +1,6 @@
 -- Calls one after the other since a setup: accepted inserts, packings and merge steps are those of `Since`, so its bounds hold of every session.
-use Prim.Native.Nat.{ℕ, zero, suc, _+_, _*_, _/_, _≤_}
-use mathlib.Core.Path.{_≡_, refl, sym, ap, _∙_, subst}
+use Prim.Native.Nat.{ℕ, suc, _+_, _/_, _≤_}
+use mathlib.Core.Path.{_≡_, refl, sym, subst}
 use mathlib.Core.Bool.{Bool, true, false, not}
 use mathlib.Core.List.{List, [], _∷_}
 use native.Mathlib.Omega.{arith}
@@ -16,14 +16,16 @@ use Rattle.rules.specs.Queue.{Queue, keyOf, fresh}
 use Rattle.rules.specs.Insert.{inserted}
 use Rattle.rules.specs.Links.{s}
 use Rattle.rules.specs.Book.{isLinkNumber, plainBook}
-use Rattle.rules.specs.Calls.{Lent, Outcome, queueOf, refused, withBuffers, insert, take, look, heldCall, audit, afterwards}
+use Rattle.rules.specs.Calls.{Lent, Outcome, queueOf, refused, insert, take, look, heldCall, audit, afterwards}
 use Rattle.rules.specs.Examples.{Order, setupOf, insertOf, takeIt, lookAt, heldNow, auditIt, call}
 use Rattle.rules.proofs.Weight.{oneIf}
 use Rattle.rules.proofs.Takes.{hand-steps}
 use Rattle.rules.proofs.Accepted.{Refusal, setup-cases, take-cases, look-cases, insert-call-cases, held-cases, audit-cases}
-use Rattle.rules.proofs.History.{Since, then-insert, then-take, then-look, steps-bounds, packings-bound}
+use Rattle.rules.proofs.History.{Since, then-insert, then-take, then-look, packings-bound}
 use Rattle.rules.proofs.History as history
+use Rattle.rules.proofs.BoundLaws.{few-steps}
 use Rattle.rules.specs.Calls as calls
+use Rattle.rules.specs.Bounds.{stepsBound}
 
 -- whether an order is an insert, and whether it is a setup
 abbrev pub isInsert : Order → Bool
@@ -206,18 +208,9 @@ module _ (work : ℕ) (orders : List Order) (a : Lent) (none : NoSetup orders) w
   pub since-setup : (links : ℕ) → queueOf a ≡ fresh links → Since links n p t (queueOf (afterAll work orders a))
   since-setup links e = rw (zero-add n, zero-add p, zero-add t) at (session-since 0 0 0 work orders a none (subst (Since links 0 0 0) (sym e) history.setup))
 
-  -- "n: accepted inserts since setup. P: packings since setup": 2n + 32P, 6n + 384P, 13n + 5,760P, 22n + 138,240P
-  pub one-link : queueOf a ≡ fresh 1 → t ≤ 2 * n + 32 * p
-  one-link e = steps-bounds .0 (since-setup 1 e)
-
-  pub two-links : queueOf a ≡ fresh 2 → t ≤ 6 * n + 384 * p
-  two-links e = steps-bounds .1 (since-setup 2 e)
-
-  pub three-links : queueOf a ≡ fresh 3 → t ≤ 13 * n + 5760 * p
-  three-links e = steps-bounds .2 (since-setup 3 e)
-
-  pub four-links : queueOf a ≡ fresh 4 → t ≤ 22 * n + 138240 * p
-  four-links e = steps-bounds .3 (since-setup 4 e)
+  -- "n: accepted inserts since setup. P: packings since setup": their steps keep the bound
+  pub steps-few : (links : ℕ) → T (isLinkNumber links) → queueOf a ≡ fresh links → t ≤ stepsBound links n p
+  steps-few links number e = few-steps links number (since-setup links e)
 
   -- "at most n divided by s(L), rounded down"
   pub packings-few : (links : ℕ) → T (isLinkNumber links) → queueOf a ≡ fresh links → p ≤ n / s links

@@ -1,5 +1,5 @@
 -- Document 02, R-9: how long one call can run, "from one formula over links and buffer sizes".
-use Prim.Native.Nat.{ℕ, zero, suc, _+_, _-_, _*_}
+use Prim.Native.Nat.{ℕ, _+_, _-_, _*_}
 use mathlib.Core.Path.{_≡_, refl}
 use mathlib.Core.Bool.{true}
 use mathlib.Core.List.{[], _∷_, _++_, map}

@@ -1,8 +1,6 @@
 -- The number is laid behind the label.
 use native.Mathlib.Omega.{arith}
 use borrow.Author.Needs.{needs}
-use lib.ListN.{length}
-use Rattle.text.specs.Decimal.{decimal}
 use Rattle.text.proofs.DecimalLaws.{decimal-short}
 use Rattle.text.proofs.LaidLaws.{laid-behind}
 use Rattle.limits.proofs.lay_field.Statement.{statement}

@@ -1,7 +1,6 @@
 -- The loop keeps: the lines before that of so many links are laid.
 use Prim.Native.Nat.{_-_, _≤_}
 use native.Mathlib.Omega.{arith}
-use borrow.Author.Needs.{needs}
 use Rattle.limits.proofs.FieldLaws.{Printed, printed-first, printed-next, printed-last}
 use Rattle.limits.proofs.lay_lines.Statement.{statement}
 use Rattle.limits.proofs.lay_lines.Tie as tie
@@ -14,8 +13,8 @@ abbrev μ-loop : tie.MeasureT-loop
 
 -- ---- the way back: from a line to the loop
 
-abbrev line : tie.After-slice-known2 Inv-loop μ-loop → tie.After-lay-line Inv-loop μ-loop
-line c = c .before .before
+abbrev laid : tie.After-slice-known2 Inv-loop μ-loop → tie.After-lay-line Inv-loop μ-loop
+laid c = c .before .before
 
 abbrev looks : tie.After-lay-line Inv-loop μ-loop → tie.In-loop Inv-loop μ-loop
 looks c = c .before .before
@@ -34,14 +33,14 @@ lay-line-requires c κs =
     (p .some, l, omega (arith, p .short, p .long, l))
 
 add-links : tie.Need-add-links Inv-loop μ-loop
-add-links c = omega (arith, few (looks (line c)))
+add-links c = omega (arith, few (looks (laid c)))
 
 loop-less : tie.Need-loop-less Inv-loop μ-loop
-loop-less c = omega (arith, few (looks (line c)))
+loop-less c = omega (arith, few (looks (laid c)))
 
 loop-again : tie.Need-loop-again Inv-loop μ-loop
 loop-again c =
-    let n = line c in
+    let n = laid c in
     let b = looks n in
     let l = few b in
     (printed-next _ (b .before .loop .inv .0) (omega arith) (n .lay-line .ensures .0) (n .lay-line .ensures .1), omega (arith, l))

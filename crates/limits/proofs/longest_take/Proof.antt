@@ -1,10 +1,7 @@
 -- The loop keeps: what is summed and what the further links cost are all.
-use mathlib.Core.Path.{_≡_}
 use Prim.Native.Nat.{_+_, _-_, _≤_}
 use native.Mathlib.Omega.{arith}
-use borrow.Author.Needs.{needs}
 use Rattle.rules.specs.Links.{capacity}
-use Rattle.rules.specs.Tree.{kMerger}
 use Rattle.rules.specs.Longest.{risen}
 use Rattle.rules.proofs.Sizes.{k-some}
 use Rattle.limits.proofs.SizeLaws.{take-few}
