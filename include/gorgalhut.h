@@ -98,8 +98,8 @@ static inline uint32_t gorgalhut_entry_command(uint64_t entry) {
 }
 
 /* ---- the six calls: the answer's number comes back; *word and *steps (merge steps made) are always written.
- * Whatever the array has, with 1 to 4 links one take or look makes at most 16, 224, 2396 or 23500 merge steps, one
- * insert at most 16, 352, 5712 or 138176, and every other call none. */
+ * Whatever stands in the array, if its book names 1 to 4 links, one take or look makes at most 16, 224, 2396 or 23500
+ * merge steps, one insert at most 16, 352, 5712 or 138176, and every other call none. */
 
 /* Makes an empty queue of so many links in the array, whatever stood there; answers 0, 1 or 2. */
 uint8_t gorgalhut_setup(uint64_t *array, size_t array_words, uint64_t links, uint64_t *word, uint64_t *steps);

@@ -1,4 +1,4 @@
-//! How long one call runs: takes, looks and inserts on sound books, half of them any, half
+//! How long one call runs: takes, looks and inserts on sound books, half of them random, half
 //! built so that a take or an insert runs long.
 
 use crate::arrays::compare_call;
@@ -27,8 +27,8 @@ pub fn compare(options: &Options, memory: &mut Memory, tally: &mut Tally) -> Res
         if number < options.from {
             continue;
         }
-        let any = turn % 4 > 1;
-        compare_array(&words, links, any, &calls, memory, tally).map_err(|difference| {
+        let random = turn % 4 > 1;
+        compare_array(&words, links, random, &calls, memory, tally).map_err(|difference| {
             let book = show::book(&words);
             format!("array {number}, {difference}\nthe array before: {book}")
         })?;
@@ -61,14 +61,14 @@ fn some_calls(rng: &mut Rng, links: usize) -> Vec<Call> {
 fn compare_array(
     words: &[u64],
     links: usize,
-    any: bool,
+    random: bool,
     calls: &[Call],
     memory: &mut Memory,
     tally: &mut Tally,
 ) -> Result<(), String> {
     for &call in calls {
         let outcome = compare_call(words, call, memory, tally)?;
-        tally.add_longest(links, any, call, outcome.steps);
+        tally.add_longest(links, random, call, outcome.steps);
     }
     tally.add_array(Kind::Built, Some(links), true);
     Ok(())

@@ -7,6 +7,23 @@ use reference::machine::Outcome;
 use std::collections::BTreeMap;
 use std::fmt::{self, Display, Formatter};
 
+/// The most steps of a take or look, and of an insert.
+#[derive(Default)]
+struct Longest {
+    take: u64,
+    insert: u64,
+}
+
+impl Longest {
+    fn add(&mut self, call: Call, steps: u64) {
+        let most = match call {
+            Call::Insert(..) => &mut self.insert,
+            _ => &mut self.take,
+        };
+        *most = steps.max(*most);
+    }
+}
+
 #[derive(Default)]
 pub struct Tally {
     /// For each kind, arrays whose book is refused and sound ones.
@@ -20,9 +37,9 @@ pub struct Tally {
     with_steps: usize,
     steps: u64,
     session_calls: usize,
-    /// For each link number, the most steps of a take or look and of an insert: on any
-    /// sound books, and on all.
-    longest: BTreeMap<usize, [[u64; 2]; 2]>,
+    /// For each link number, on random books and on all.
+    longest_random: BTreeMap<usize, Longest>,
+    longest: BTreeMap<usize, Longest>,
     lines: usize,
     /// Joins and parts.
     joins: BTreeMap<&'static str, Joins>,
@@ -70,11 +87,11 @@ impl Tally {
         self.session_calls += 1;
     }
 
-    pub fn add_longest(&mut self, links: usize, any: bool, call: Call, steps: u64) {
-        let insert = matches!(call, Call::Insert(..));
-        let most = self.longest.entry(links).or_default();
-        for row in &mut most[usize::from(!any)..] {
-            row[usize::from(insert)] = steps.max(row[usize::from(insert)]);
+    pub fn add_longest(&mut self, links: usize, random: bool, call: Call, steps: u64) {
+        self.longest.entry(links).or_default().add(call, steps);
+        if random {
+            let longest = self.longest_random.entry(links).or_default();
+            longest.add(call, steps);
         }
     }
 
@@ -95,13 +112,13 @@ impl Tally {
     }
 
     fn write_longest(&self, out: &mut Formatter) -> fmt::Result {
-        for (links, [[take, insert], _]) in &self.longest {
+        for (links, Longest { take, insert }) in &self.longest_random {
             writeln!(
                 out,
-                "links {links}, any sound book: take {take}, insert {insert}"
+                "links {links}, random books: take {take}, insert {insert}"
             )?;
         }
-        for (&links, [_, [take, insert]]) in &self.longest {
+        for (&links, Longest { take, insert }) in &self.longest {
             let (take_limit, insert_limit) = (longest_take(links), longest_insert(links));
             writeln!(
                 out,

@@ -2,10 +2,7 @@
 //!
 //! Quotes that begin with R are from document 02.
 
-use crate::links::{array_words, link, most_held, Link, INSERTION_SLOTS, MOST_LINKS};
-
-/// "Print the formula's value for four and five links."
-pub const MOST_PRINTED: usize = 5;
+use crate::links::{array_words, link, most_held, Link, INSERTION_SLOTS, MOST_LINKS, MOST_PRINTED};
 
 /// Levels of a link's merger tree: k is 2 to this power.
 fn height(link: &Link) -> usize {

@@ -112,10 +112,13 @@ impl Link {
     }
 }
 
+/// "Print the formula's value for four and five links."
+pub const MOST_PRINTED: usize = 5;
+
 /// The link of this number, 1 to 5, computed once; the fifth is only counted with.
 pub fn link(number: usize) -> &'static Link {
     static LINKS: OnceLock<Vec<Link>> = OnceLock::new();
-    let links = LINKS.get_or_init(|| (1..=MOST_LINKS + 1).map(Link::compute).collect());
+    let links = LINKS.get_or_init(|| (1..=MOST_PRINTED).map(Link::compute).collect());
     &links[number - 1]
 }
 

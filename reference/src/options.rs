@@ -28,7 +28,8 @@ reference --generate       write a seeded random session of frames
                            for 4, give --array 28436 --work 17280 here as well
   --plain                  valid orders only, with many ties
   --array N, --work N      the memory the session is meant for, as above
-reference --limits         print how long one call can run, for each number of links
+reference --limits         print for each number of links how large a queue is
+                           and how long one call can run
 reference --help           this text
 ";
 

@@ -118,6 +118,14 @@ fn plain_long_calls() {
     }
 }
 
+/// Five links can be filled, but not be set up yet.
+#[test]
+fn plain_long_take_of_five() {
+    let mut queue = long_take(&mut Rng::new(3), 5, true);
+    assert!(order_kept(&queue));
+    assert_eq!(take(&mut queue, None).1, 222_938);
+}
+
 #[test]
 fn long_calls_keep_the_limits() {
     let mut rng = Rng::new(4);

@@ -1,4 +1,4 @@
--- Demands 2 and 3 hold of any calls, and how long each can run, one after the other on one array.
+-- Demands 2 and 3 hold of any calls one after the other on one array, and none of them runs longer than its formula says.
 use Prim.Native.Nat.{ℕ}
 use mathlib.Core.Path.{_≡_, refl, ap, _∙_, subst}
 use native.Mathlib.Omega.{arith}

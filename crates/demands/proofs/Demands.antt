@@ -54,7 +54,7 @@ use Rattle.demands.proofs.SequenceLaws.{from-setup, since-same, links-s
 use Rattle.demands.proofs.AnswerLaws as answers
 use Rattle.demands.proofs.PlaceLaws.{sound-has-place, insert-has-place}
 use Rattle.demands.proofs.MadeLaws.{Nothing, area-inside, refused-nothing, made-agree}
-use Rattle.demands.proofs.LongestLaws.{eight-digits, made-longest, taken-longest, take-rows}
+use Rattle.demands.proofs.LongestLaws.{eight-digits, made-longest, taken-rows, inserted-rows}
 use Rattle.demands.proofs.TallyLaws.{history-made, since-made, tallied, tally-sums}
 use Rattle.demands.proofs.FrameLaws.{Reads, Writes, read-back, write-back}
 use Rattle.demands.proofs.UnreadLaws.{made-unread}
@@ -124,7 +124,12 @@ each-call-no-longer = made-longest
 -- ".. 16 merge steps with one link, 224 with two and 2,396 with three"; "the formula's value for four": 23,500
 pub each-take-by-rows : (ws ws′ : List ℕ) (c : Call) → Made ws c ws′ → (c .order ≡ takeIt) ⊎ (c .order ≡ lookAt)
     → (linksIn ws ≡ 1 → c .steps ≤ 16) × (linksIn ws ≡ 2 → c .steps ≤ 224) × (linksIn ws ≡ 3 → c .steps ≤ 2396) × (linksIn ws ≡ 4 → c .steps ≤ 23500)
-each-take-by-rows ws ws′ c made is = take-rows (linksIn ws) (c .steps) (taken-longest ws ws′ c made is)
+each-take-by-rows = taken-rows
+
+-- and an insert: 16, 352, 5,712 and 138,176
+pub each-insert-by-rows : (ws ws′ : List ℕ) (c : Call) → Made ws c ws′ → (entry : ℕ) → c .order ≡ insertOf entry
+    → (linksIn ws ≡ 1 → c .steps ≤ 16) × (linksIn ws ≡ 2 → c .steps ≤ 352) × (linksIn ws ≡ 3 → c .steps ≤ 5712) × (linksIn ws ≡ 4 → c .steps ≤ 138176)
+each-insert-by-rows = inserted-rows
 
 -- ---- demand 2: a call c in a history, after the calls `earlier` and before the calls `later`
 
@@ -247,7 +252,7 @@ module _ {ws : List ℕ} (cs : List Call) (h : History cs ws) where
   pub tally-bounded : Within (sums (since cs)) → let t = tallyAfter (since cs) in t .steps ≤ stepsBound (links cs) (t .inserts) (t .packings)
   tally-bounded w = rw (tally-sums (since cs) (since-made cs (history-made h)) w) steps-bounded
 
--- there are histories: a computed one has sweeps, a packing, a refusal, and with one link a take of 16 steps, the most that there can be
+-- there are histories: a computed one has sweeps, a packing, a refusal, and with one link a take and an insert of 16 steps each, the most that there can be
 pub histories-exist : Exists
 histories-exist = computed
 

@@ -76,7 +76,7 @@ module _ (ws : List ℕ) where
   pub call-longest : (work : ℕ) (order : Order) → call work order a .steps ≤ longestCall order (linksIn ws)
   call-longest work order = elim (runs work order) [ inl none ↦ omega (arith, none) | inr some ↦ some .1 ]
 
-  -- and of no more than eight hexadecimal digits
+  -- "steps, 8": they have at most eight hexadecimal digits
   call-few : (work : ℕ) (order : Order) → call work order a .steps < 16 ^ 8
   call-few work order =
       elim (runs work order) [
@@ -89,18 +89,31 @@ module _ (ws ws′ : List ℕ) (c : Call) (made : Made ws c ws′) where
   pub made-longest : c .steps ≤ longestCall (c .order) (linksIn ws)
   made-longest = omega (arith, made .called .steps-are, call-longest ws (c .work) (c .order))
 
+  -- "steps, 8"
   pub eight-digits : c .steps < 16 ^ 8
   eight-digits = omega (arith, made .called .steps-are, call-few ws (c .work) (c .order))
 
-  -- of a take or a look
-  pub taken-longest : (c .order ≡ takeIt) ⊎ (c .order ≡ lookAt) → c .steps ≤ longestTake (linksIn ws)
-  unfolding longestCall
-  taken-longest (inl is) = rw is at made-longest
-  taken-longest (inr is) = rw is at made-longest
-
--- the rows, from the one formula
+-- the rows, from the two formulas
 pub take-rows : (l t : ℕ) → t ≤ longestTake l → (l ≡ 1 → t ≤ 16) × (l ≡ 2 → t ≤ 224) × (l ≡ 3 → t ≤ 2396) × (l ≡ 4 → t ≤ 23500)
 unfolding longestTake
 take-rows l t h =
     let at : (m : ℕ) → l ≡ m → t ≤ longestTake m = λ m e. subst (λ l. t ≤ longestTake l) e h in
     (λ e. omega (arith, at 1 e), λ e. omega (arith, at 2 e), λ e. omega (arith, at 3 e), λ e. omega (arith, at 4 e))
+
+pub insert-rows : (l t : ℕ) → t ≤ longestInsert l → (l ≡ 1 → t ≤ 16) × (l ≡ 2 → t ≤ 352) × (l ≡ 3 → t ≤ 5712) × (l ≡ 4 → t ≤ 138176)
+unfolding longestInsert
+insert-rows l t h =
+    let at : (m : ℕ) → l ≡ m → t ≤ longestInsert m = λ m e. subst (λ l. t ≤ longestInsert l) e h in
+    (λ e. omega (arith, at 1 e), λ e. omega (arith, at 2 e), λ e. omega (arith, at 3 e), λ e. omega (arith, at 4 e))
+
+module _ (ws ws′ : List ℕ) (c : Call) (made : Made ws c ws′) where
+  pub taken-rows : (c .order ≡ takeIt) ⊎ (c .order ≡ lookAt)
+      → (linksIn ws ≡ 1 → c .steps ≤ 16) × (linksIn ws ≡ 2 → c .steps ≤ 224) × (linksIn ws ≡ 3 → c .steps ≤ 2396) × (linksIn ws ≡ 4 → c .steps ≤ 23500)
+  unfolding longestCall
+  taken-rows (inl is) = take-rows (linksIn ws) (c .steps) (rw is at (made-longest ws ws′ c made))
+  taken-rows (inr is) = take-rows (linksIn ws) (c .steps) (rw is at (made-longest ws ws′ c made))
+
+  pub inserted-rows : (entry : ℕ) → c .order ≡ insertOf entry
+      → (linksIn ws ≡ 1 → c .steps ≤ 16) × (linksIn ws ≡ 2 → c .steps ≤ 352) × (linksIn ws ≡ 3 → c .steps ≤ 5712) × (linksIn ws ≡ 4 → c .steps ≤ 138176)
+  unfolding longestCall
+  inserted-rows entry is = insert-rows (linksIn ws) (c .steps) (rw is at (made-longest ws ws′ c made))

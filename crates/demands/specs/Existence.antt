@@ -20,9 +20,9 @@ refusals [] = 0
 refusals (c ∷ cs) = once (not (accepted c)) + refusals cs
 
 -- how many accepted takes, or accepted inserts, made so many steps
-abbrev pub lasting : (List Call → ℕ) → ℕ → List Call → ℕ
-lasting kind n [] = 0
-lasting kind n (c ∷ cs) = once (eqb (kind (c ∷ [])) 1 and eqb (c .steps) n) + lasting kind n cs
+abbrev pub withSteps : (List Call → ℕ) → ℕ → List Call → ℕ
+withSteps kind n [] = 0
+withSteps kind n (c ∷ cs) = once (eqb (kind (c ∷ [])) 1 and eqb (c .steps) n) + withSteps kind n cs
 
 -- calls that have a history, the words that they left, and what is in it
 pub record Exists : Type 0 where
@@ -33,5 +33,5 @@ pub record Exists : Type 0 where
   pub packed : packings calls ≡ 1
   pub refused : refusals calls ≡ 1
   -- a take and an insert that ran as long as they can
-  pub longest-take : lasting takes (longestTake 1) calls ≡ 1
-  pub longest-insert : lasting inserts (longestInsert 1) calls ≡ 1
+  pub longest-take : withSteps takes (longestTake 1) calls ≡ 1
+  pub longest-insert : withSteps inserts (longestInsert 1) calls ≡ 1

@@ -83,22 +83,22 @@ module _ (i : ℕ) (link : 0 < i) where
 -- ---- level by level
 
 -- so much is summed, and below the j buffers of a level stand so many levels
-pub record Summed (i levels j total : ℕ) : Type 0 where
+pub record LevelsSummed (i levels j total : ℕ) : Type 0 where
   pub kept : total + restFrom i levels j ≡ risen (kMerger i)
   pub doubled : j * 2 ^ levels ≡ k i
   pub some : 0 < j
 
-pub summed-first : (i : ℕ) → 0 < i → (levels : ℕ) → levels ≡ height i → Summed i levels 1 0
-summed-first i link levels e = record { kept = rw e (omega (arith, rest-all i link)); doubled = rw (e, k-power i) (omega arith); some = omega arith }
+pub levels-first : (i : ℕ) → 0 < i → (levels : ℕ) → levels ≡ height i → LevelsSummed i levels 1 0
+levels-first i link levels e = record { kept = rw e (omega (arith, rest-all i link)); doubled = rw (e, k-power i) (omega arith); some = omega arith }
 
 -- the level that comes next: it is of the link, and what it adds is part of the whole
 pub record NextLevel (i levels j total : ℕ) : Type 0 where
   pub inner : j < k i
   pub each : j * capacity i j ≤ j * capacity i j * levels
   pub whole : total + j * capacity i j * levels ≤ risen (kMerger i)
-  pub then : Summed i (levels - 1) (2 * j) (total + j * capacity i j * levels)
+  pub then : LevelsSummed i (levels - 1) (2 * j) (total + j * capacity i j * levels)
 
-pub next-level : (i levels j total : ℕ) → Summed i levels j total → 0 < levels → NextLevel i levels j total
+pub next-level : (i levels j total : ℕ) → LevelsSummed i levels j total → 0 < levels → NextLevel i levels j total
 unfolding restFrom
 next-level i zero j total sum more = absurd (omega arith)
 next-level i (suc l) j total sum more =
@@ -113,6 +113,6 @@ next-level i (suc l) j total sum more =
     }
 
 -- with no level left it is all
-pub summed-last : (i levels j total : ℕ) → Summed i levels j total → levels ≡ 0 → total ≡ risen (kMerger i)
+pub levels-last : (i levels j total : ℕ) → LevelsSummed i levels j total → levels ≡ 0 → total ≡ risen (kMerger i)
 unfolding restFrom
-summed-last i levels j total sum none = let rest : restFrom i levels j ≡ 0 = ap (λ l. restFrom i l j) none in omega (arith, sum .kept)
+levels-last i levels j total sum none = let rest : restFrom i levels j ≡ 0 = ap (λ l. restFrom i l j) none in omega (arith, sum .kept)

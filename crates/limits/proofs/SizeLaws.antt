@@ -1,6 +1,6 @@
 -- The sizes of five links: what a computed test says of each.
 use Prim.Native.Nat.{ℕ, suc, _+_, _^_, _≤_, _<_}
-use mathlib.Core.Path.{_≡_, sym, ap, _∙_}
+use mathlib.Core.Path.{_≡_, sym, ap, _∙_, subst}
 use mathlib.Core.Bool.{Bool}
 use mathlib.Core.List.{List, [], _∷_}
 use native.Mathlib.Omega.{arith}
@@ -13,8 +13,10 @@ use Rattle.rules.specs.Links.{k, height, capacity, most, InLink}
 use Rattle.rules.specs.Tree.{kMerger}
 use Rattle.rules.specs.Bounds.{perInsert}
 use Rattle.rules.specs.Longest.{risen, longestTake}
-use Rattle.rules.proofs.Table.{every-at}
+use Rattle.rules.proofs.Table.{every-at, each-link}
 use Rattle.rules.proofs.Sizes.{by-leb, k-power}
+use Rattle.rules.proofs.BookLaws.{number-is}
+use Rattle.rules.proofs.BoundLaws.{few-held}
 
 -- at most so much, of one to five links
 at-most-five : (f : ℕ → ℕ) (m : ℕ) → T (every (λ i. leb (f i) m) 1 5) → (i : ℕ) → 1 ≤ i → i ≤ 5 → f i ≤ m
@@ -38,21 +40,20 @@ take-few = at-most-five longestTake 223488 tt
 
 -- of the last link of a queue
 pub most-few : (links : ℕ) → 1 ≤ links → links ≤ 4 → most links ≤ 17280
-unfolding every most
-most-few links low high = leb→le (most links) 17280 (every-at (λ l. leb (most l) 17280) 1 4 tt links low (omega arith))
+most-few links low high = few-held links (subst T (sym (number-is (record { low = low; high = high }))) tt)
 
 pub most-some : (links : ℕ) → 1 ≤ links → links ≤ 4 → 8 ≤ most links
 unfolding every most
-most-some links low high = leb→le 8 (most links) (every-at (λ l. leb 8 (most l)) 1 4 tt links low (omega arith))
+most-some links low high = leb→le 8 (most links) (each-link (λ l. leb 8 (most l)) tt (record { low = low; high = high }))
 
 -- ---- the fifth link
 
--- "k .. 32"
+-- document 02, R-8: "k = 32"
 pub fifth-k : {i : ℕ} → i ≡ 5 → 32 ≡ k i
 unfolding k
 fifth-k e = sym (ap k e)
 
--- "32,768 .. 8, 23, 182, 8": level r has so many buffers of one size, from a number on
+-- document 02, R-8: "A and B of 32,768, inner buffers 2 of 8, 4 of 23, 8 of 182, 16 of 8": level r has so many buffers of one size, from a number on
 abbrev sizes : List ℕ
 sizes = 32768 ∷ 8 ∷ 23 ∷ 182 ∷ 8 ∷ []
 

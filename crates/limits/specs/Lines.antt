@@ -16,7 +16,7 @@ unfoldable pub field : String → ℕ → List ℕ
 unfolding bytes places digits
 field label n = bytes label ++ decimal n
 
--- "A queue of L links (1 to 4)": of more there is nothing to say yet
+-- "A queue of L links (1 to 4)": of more links no queue can be set up yet, so sizes and inserts are left out
 unfoldable pub ifThere : ℕ → List ℕ → List ℕ
 unfolding mostLinks
 ifThere links text = elim (leb links mostLinks) [ true ↦ text | false ↦ [] ]

@@ -144,7 +144,7 @@ fn lay_inserts(out: &mut [u8], at: usize, links: usize) -> usize
     lay_field(out, end, b"  per packing ", per_packing(links))
 }
 
-// Of links that no queue has yet, the longest take alone.
+// Of links that no queue has yet, the longest take alone. 251 bytes are room for every line.
 fn lay_line(out: &mut [u8], at: usize, links: usize) -> usize
     requires { ⌜ (1 ≤ links) × (links ≤ 5) × (at + 251 ≤ length (now out)) ⌝ }
     ensures { λ r. ⌜ Laid (line links) at (now (out .entry)) (now (out .exit)) r × (r ≤ at + 251) ⌝ }
@@ -156,7 +156,7 @@ fn lay_line(out: &mut [u8], at: usize, links: usize) -> usize
     text::lay(out, end, b"\n")
 }
 
-// The lines for one to five links.
+// The lines for one to five links, 251 bytes at most for each.
 fn lay_lines(out: &mut [u8]) -> usize
     requires { ⌜ 1255 ≤ length (now out) ⌝ }
     ensures { λ r. ⌜ Laid (linesTo 5) 0 (now (out .entry)) (now (out .exit)) r × (r ≤ 1255) ⌝ }

@@ -1,22 +1,22 @@
 -- A fill's steps are few: each entry rises at most as many levels as the tree has buffers, and a count is below 65,536.
-use Prim.Native.Nat.{ℕ, zero, suc, _+_, _-_, _*_, _≤_, _<_}
-use mathlib.Core.Path.{_≡_, refl, sym, ap, _∙_}
-use mathlib.Core.Bool.{Bool, true, false}
-use mathlib.Core.List.{List, [], _∷_}
+use Prim.Native.Nat.{ℕ, suc, _+_, _*_, _≤_, _<_}
+use mathlib.Core.Path.{_≡_}
+use mathlib.Core.List.{List, []}
 use native.Mathlib.Omega.{arith}
 use native.Mathlib.Decide.{decLt}
-use native.Mathlib.Nat.{mul-le-mul-right}
-use lib.Dec.{T, leb, leb→le}
+use native.Mathlib.Nat.{max-le}
+use lib.Dec.{leb, leb→le}
 use lib.ListN.{length, getD, List·getD-eq-default}
 use Rattle.rules.specs.Tests.{every}
 use Rattle.rules.specs.Links.{LinkNumber, InLink}
-use Rattle.rules.specs.Tree.{Buffers, Tree, exhausted, buffer, merger, linksFrom}
+use Rattle.rules.specs.Tree.{Buffers, Tree, exhausted, buffer, merger, heightOf, linksFrom}
 use Rattle.rules.specs.Fill.{fill}
 use Rattle.rules.specs.Take.{heldIn}
 use Rattle.rules.proofs.Numbers.{Among}
 use Rattle.rules.proofs.Table.{every-at, each-link}
-use Rattle.rules.proofs.Weight.{weightIn, sumOf-same, owedIn, fill-owed}
-use Rattle.buffers.specs.Format.{buffersOf, bufferOf, countOf, many}
+use Rattle.rules.proofs.Weight.{fill-owed}
+use Rattle.rules.proofs.LongestLaws.{owed-at-most}
+use Rattle.buffers.specs.Format.{buffersOf, many}
 use Rattle.buffers.specs.Post.{Inside}
 use Rattle.buffers.proofs.ArrayLaws.{has, buffer-length, buffers-at, buffers-length}
 use Rattle.mergers.specs.Subtree.{subtree}
@@ -28,24 +28,15 @@ size exhausted = 0
 size (buffer n c) = 1
 size (merger n c one two) = suc (size one + size two)
 
-owed-few : (t : Tree) (d : ℕ) (bs : Buffers) → d + size t ≤ 200 → weightIn (λ d e. d) t d bs ≤ 200 * heldIn t bs
-unfolding size weightIn heldIn
-owed-few exhausted d bs h = omega arith
-owed-few (buffer n c) d bs h = omega (arith, sumOf-same d (getD bs n []), mul-le-mul-right (length (getD bs n [])) (few d h))
-  where
-    few : (d : ℕ) → d + 1 ≤ 200 → d ≤ 200
-    few d h = omega arith
-owed-few (merger n c one two) d bs h =
-    omega (
-      arith,
-      sumOf-same d (getD bs n []),
-      mul-le-mul-right (length (getD bs n [])) (few d (size one + size two) h),
-      owed-few one (suc d) bs (omega arith),
-      owed-few two (suc d) bs (omega arith),
-    )
-  where
-    few : (d z : ℕ) → d + suc z ≤ 200 → d ≤ 200
-    few d z h = omega arith
+-- no tree is higher than it has buffers
+height-few : (t : Tree) → heightOf t ≤ size t
+unfolding size heightOf
+height-few exhausted = omega arith
+height-few (buffer n c) = omega arith
+height-few (merger n c one two) =
+    let first : heightOf one ≤ size one + size two = omega (arith, height-few one) in
+    let second : heightOf two ≤ size one + size two = omega (arith, height-few two) in
+    omega (arith, max-le {a = heightOf one} {b = heightOf two} {k = size one + size two} first second)
 
 held-few : (t : Tree) (bs : Buffers) → ((n : ℕ) → length (getD bs n []) ≤ 65535) → heldIn t bs ≤ 65535 * size t
 unfolding size heldIn
@@ -84,4 +75,4 @@ steps-few key ws array last {i} {j} inside low high among =
     let bs = buffersOf ws in
     let among′ : Among t (length bs) = rw (buffers-length ws) among in
     let few = part-size last inside low high in
-    omega (arith, fill-owed key t bs among′, owed-few t 0 bs (omega arith), held-few t bs (count-few ws array))
+    omega (arith, fill-owed key t bs among′, owed-at-most t 200 bs (omega (arith, height-few t)), held-few t bs (count-few ws array))

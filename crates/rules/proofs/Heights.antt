@@ -74,7 +74,7 @@ pub height-rises : (i : ℕ) → 0 < i → height i ≤ height (suc i)
 unfolding height
 height-rises i link = heightFor-mono (s i) (s (suc i)) (omega (arith, s-next i link))
 
--- either of two links
+-- nor than any before it
 height-mono : (i n : ℕ) → 0 < i → height i ≤ height (i + n)
 height-mono i zero link = let e : i + 0 ≡ i = omega arith in rw e (omega arith)
 height-mono i (suc n) link = let e : i + suc n ≡ suc (i + n) = omega arith in rw e (omega (arith, height-mono i n link, height-rises (i + n) (omega arith)))

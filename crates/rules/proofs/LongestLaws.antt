@@ -60,6 +60,19 @@ owed-most (merger n c one two) d h b deep =
     apart : (h w x y z : ℕ) → h * ((w + x) + (y + z)) ≡ (h * w + h * x) + (h * y + h * z)
     apart h w x y z = omega arith
 
+-- so what a tree's entries owe is at most its height for each
+pub owed-at-most : (t : Tree) (h : ℕ) (bs : Buffers) → heightOf t ≤ h → owedIn t bs ≤ h * heldIn t bs
+owed-at-most t h bs low =
+    let all : h * heldIn t bs ≡ h * length (entries t bs) + h * heldBelow t 0 (below t bs) = rw (held-seen t 0 bs) (omega arith) in
+    omega (arith, all, weight-seen depth t 0 bs, sumOf-same 0 (entries t bs), owed-most t 0 h (below t bs) (omega arith))
+
+-- the first links hold no more than all
+links-fewer : (n m i : ℕ) (bs : Buffers) → n ≤ m → heldIn (linksFrom i n) bs ≤ heldIn (linksFrom i m) bs
+unfolding linksFrom heldIn
+links-fewer zero m i bs low = omega arith
+links-fewer (suc n) zero i bs low = absurd (omega arith)
+links-fewer (suc n) (suc m) i bs low = omega (arith, links-fewer n m (suc i) bs (omega arith))
+
 -- ---- one fill
 
 module _ (a size : ℕ) where
@@ -202,18 +215,6 @@ module _ (room : ℕ) (q : Queue) (shape : Shaped q) (kept : Kept room q) where
 
   -- ---- repeated takes
 
-  -- the first links hold no more than all
-  links-fewer : (n m i : ℕ) → n ≤ m → heldIn (linksFrom i n) bs ≤ heldIn (linksFrom i m) bs
-  unfolding linksFrom heldIn
-  links-fewer zero m i low = omega arith
-  links-fewer (suc n) zero i low = absurd (omega arith)
-  links-fewer (suc n) (suc m) i low = omega (arith, links-fewer n m (suc i) (omega arith))
-
-  owed-by-all : (u : Tree) (h : ℕ) → heightOf u ≤ h → owedIn u bs ≤ h * heldIn u bs
-  owed-by-all u h low =
-      let all : h * heldIn u bs ≡ h * length (entries u bs) + h * heldBelow u 0 (below u bs) = rw (held-seen u 0 bs) (omega arith) in
-      omega (arith, all, weight-seen depth u 0 bs, sumOf-same 0 (entries u bs), owed-most u 0 h (below u bs) (omega arith))
-
   -- the first m links are emptied, each entry by as many steps as it is deep
   empties-longest : (m : ℕ) → m ≤ q .links → takeAll (keyOf q) (treeOf m) bs .steps ≤ (q .links + height (q .links)) * heldIn t bs
   unfolding treeOf bufferCount
@@ -226,8 +227,8 @@ module _ (room : ℕ) (q : Queue) (shape : Shaped q) (kept : Kept room q) where
         arith,
         takeAll-pays depth 1 (λ d e. omega arith) (keyOf q) (tree-roomy m) bs beside,
         sumOf-same 0 (insertion bs),
-        owed-by-all u h deep,
-        mul-le-mul-left h (links-fewer m (q .links) 1 low),
+        owed-at-most u h bs deep,
+        mul-le-mul-left h (links-fewer m (q .links) 1 bs low),
       )
 
 -- ---- an insert into a queue that keeps the book rules and is not full

@@ -9,7 +9,7 @@ use Rattle.rules.specs.Merge.{Step}
 use Rattle.rules.proofs.Steps.{Stepped, stops, from-first, from-second, stepped}
 use Rattle.rules.proofs.Contents.{Refilled, Run, refill, stepThen, mergeInto}
 
--- a fill of an empty input: `held` counts what stands below it, `Good` says what it has to be
+-- a fill of an empty input: `held` counts what stands below the input, `Good` says which contents are meant
 pub record Once {A : Type 0} (held : A → ℕ) (Good : A → Type 0) (fill : List ℕ × A → Refilled A) (room cost : ℕ) : Type 0 where
   -- it costs at most so much
   pub costs : (a : A) → Good a → fill ([], a) .steps ≤ cost
@@ -37,17 +37,17 @@ module _ {A : Type 0} (held : A → ℕ) (Good : A → Type 0) (cost : ℕ) wher
   keep-due (unfilled g) = unfilled g
 
   -- what a fill that is made only where the input is empty costs is due no more
-  record Paid (room due : ℕ) (r : Refilled A) : Type 0 where
+  record StillDue (room due : ℕ) (r : Refilled A) : Type 0 where
     left : ℕ
     still : Due held Good cost room (r .contents .0) (r .contents .1) left
     pays : r .steps + left ≤ due
 
   module _ (fill : List ℕ × A → Refilled A) (room most : ℕ) (once : Once held Good fill most cost) (within : suc room ≤ most) where
-    settled : (r : Refilled A) (due : ℕ) → r .steps ≤ due → (most ≤ length (r .contents .0)) ⊎ (held (r .contents .1) ≡ 0) → Paid (suc room) due r
+    settled : (r : Refilled A) (due : ℕ) → r .steps ≤ due → (most ≤ length (r .contents .0)) ⊎ (held (r .contents .1) ≡ 0) → StillDue (suc room) due r
     settled r due h (inl l) = record { left = 0; still = enough {es = r .contents .0} (omega arith); pays = omega arith }
     settled r due h (inr n) = record { left = 0; still = drained n; pays = omega arith }
 
-    refill-due : {d : ℕ} (es : List ℕ) (a : A) → Due held Good cost (suc room) es a d → Paid (suc room) d (refill fill es a)
+    refill-due : {d : ℕ} (es : List ℕ) (a : A) → Due held Good cost (suc room) es a d → StillDue (suc room) d (refill fill es a)
     unfolding refill
     refill-due {d} (e ∷ es) a due = record { left = d; still = due; pays = omega arith }
     refill-due [] a (enough l) = absurd (omega arith)

@@ -209,8 +209,8 @@ module _ (work : ℕ) (orders : List Order) (a : Lent) (none : NoSetup orders) w
   since-setup links e = rw (zero-add n, zero-add p, zero-add t) at (session-since 0 0 0 work orders a none (subst (Since links 0 0 0) (sym e) history.setup))
 
   -- "n: accepted inserts since setup. P: packings since setup": their steps keep the bound
-  pub steps-few : (links : ℕ) → T (isLinkNumber links) → queueOf a ≡ fresh links → t ≤ stepsBound links n p
-  steps-few links number e = few-steps links number (since-setup links e)
+  pub session-bounded : (links : ℕ) → T (isLinkNumber links) → queueOf a ≡ fresh links → t ≤ stepsBound links n p
+  session-bounded links number e = few-steps links number (since-setup links e)
 
   -- "at most n divided by s(L), rounded down"
   pub packings-few : (links : ℕ) → T (isLinkNumber links) → queueOf a ≡ fresh links → p ≤ n / s links

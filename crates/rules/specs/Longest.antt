@@ -13,14 +13,14 @@ use Rattle.rules.specs.Book.{sound, plainBook}
 use Rattle.rules.specs.Rest.{queueWith}
 use Rattle.rules.specs.Examples.{Order, setupOf, insertOf, takeIt, lookAt, heldNow, auditIt, nothingYet, outcome, inserts, takes, one}
 
--- what filling a merger once can cost at most: afterwards each buffer of its tree is full, and each entry came up from the lowest level
+-- what filling a merger once can cost at most: as if afterwards each buffer that a merger feeds were full, and each entry in it had come up from the lowest level
 unfoldable pub risen : Tree → ℕ
 unfolding heightOf
 risen exhausted = 0
 risen (buffer n c) = 0
 risen (merger n c one two) = c * heightOf (merger n c one two) + (risen one + risen two)
 
--- what filling v(i) can cost at most: A(i) gets as many entries as it holds, and B(i) and A(i+1) are filled once each, because neither is smaller
+-- what filling v(i) can cost at most: A(i) gets at most as many entries as it has slots, and meanwhile B(i) and A(i+1) are filled at most once each, because neither is smaller than A(i)
 unfoldable pub longestFill : Tree → ℕ
 unfolding risen
 longestFill exhausted = 0
@@ -63,11 +63,11 @@ pub oneLinkReaches : map (λ orders. outcome (one orders nothingYet) .lastSteps)
 unfolding outcome inserts longestTake longestInsert
 oneLinkReaches = refl
 
--- with two links an insert reaches it too, from a sound book: seven in I, all else in the last link, and no unused S
-unfoldable pub lastLinkFull : Queue
+-- with two links an insert reaches it too, from a sound book: seven in I, all else in the S of the last link, and every counter past its last S, so that it packs
+unfoldable pub allDeep : Queue
 unfolding queueWith
-lastLinkFull = queueWith 2 (3 ∷ 5 ∷ []) (7 ∷ 0 ∷ 0 ∷ 0 ∷ 0 ∷ 0 ∷ 0 ∷ 0 ∷ 0 ∷ 24 ∷ 24 ∷ 24 ∷ 16 ∷ [])
+allDeep = queueWith 2 (3 ∷ 5 ∷ []) (7 ∷ 0 ∷ 0 ∷ 0 ∷ 0 ∷ 0 ∷ 0 ∷ 0 ∷ 0 ∷ 24 ∷ 24 ∷ 24 ∷ 16 ∷ [])
 
-pub twoLinksReach : (inserted 5 lastLinkFull .steps ≡ longestInsert 2) × ((sound (plainBook lastLinkFull) and ltb (held lastLinkFull) (most 2)) ≡ true)
-unfolding lastLinkFull inserted longestInsert sound plainBook held most
+pub twoLinksReach : (inserted 5 allDeep .steps ≡ longestInsert 2) × ((sound (plainBook allDeep) and ltb (held allDeep) (most 2)) ≡ true)
+unfolding allDeep inserted longestInsert sound plainBook held most
 twoLinksReach = (refl, refl)

@@ -16,9 +16,9 @@ ten : decimal 10 ≡ 49 ∷ 48 ∷ []
 unfolding places digits
 ten = refl
 
-slots : decimal 223488 ≡ 50 ∷ 50 ∷ 51 ∷ 52 ∷ 56 ∷ 56 ∷ []
+fiveLinks : decimal 223488 ≡ 50 ∷ 50 ∷ 51 ∷ 52 ∷ 56 ∷ 56 ∷ []
 unfolding places digits
-slots = refl
+fiveLinks = refl
 
 -- 18446744073709551615, the last of 64 bits: 20 digits
 last : List ℕ

@@ -1,10 +1,17 @@
--- What is written out is what was laid.
-use mathlib.Core.Path.{sym}
+-- The five lines are handed over to be written; which bytes go out no contract of the kit says.
+use mathlib.Core.Path.{_≡_, sym}
 use native.Mathlib.Omega.{arith}
+use lib.ListN.{take}
 use lib.Seq.{length-take-le}
 use borrow.Author.Needs.{needs}
+use Rattle.text.proofs.LaidLaws.{laid-reads}
+use Rattle.limits.specs.Lines.{linesTo}
 use Rattle.limits.proofs.main.Statement.{statement}
 use Rattle.limits.proofs.main.Tie as tie
+
+-- what is handed over
+pub handed : (c : tie.After-lay-lines) → take (c .lay-lines .result) (c .lay-lines .last .0) ≡ linesTo 5
+handed c = laid-reads (c .lay-lines .ensures .0)
 
 slice-aggregate-lay-lines : tie.Need-slice-aggregate-lay-lines
 slice-aggregate-lay-lines c = search needs

@@ -5,12 +5,12 @@ use native.Mathlib.Omega.{arith}
 use borrow.Author.Needs.{needs}
 use Rattle.rules.specs.Links.{capacity}
 use Rattle.limits.proofs.SizeLaws.{k-few, risen-few}
-use Rattle.limits.proofs.RisenLaws.{Summed, summed-first, NextLevel, next-level, summed-last}
+use Rattle.limits.proofs.RisenLaws.{LevelsSummed, levels-first, NextLevel, next-level, levels-last}
 use Rattle.limits.proofs.risen.Statement.{statement}
 use Rattle.limits.proofs.risen.Tie as tie
 
 abbrev Inv-loop : tie.InvT-loop
-Inv-loop i levels₀ j₀ total₀ levels j total = Summed i levels j total
+Inv-loop i levels₀ j₀ total₀ levels j total = LevelsSummed i levels j total
 
 abbrev μ-loop : tie.MeasureT-loop
 μ-loop i levels₀ j₀ total₀ levels j total = levels
@@ -37,7 +37,7 @@ height-requires : tie.Need-height-requires Inv-loop μ-loop
 height-requires c κs = search needs
 
 loop-holds : tie.Need-loop-holds Inv-loop μ-loop
-loop-holds c = summed-first (c .before .args .i) (omega arith) (c .height .result) (c .height .ensures)
+loop-holds c = levels-first (c .before .args .i) (omega arith) (c .height .result) (c .height .ensures)
 
 capacity-requires : tie.Need-capacity-requires Inv-loop μ-loop
 capacity-requires c κs = (omega arith, omega arith, next c .inner)
@@ -64,7 +64,7 @@ loop-again : tie.Need-loop-again Inv-loop μ-loop
 loop-again c = rw (counted c) (next (c .before) .then)
 
 returns : tie.Need-returns Inv-loop μ-loop
-returns c = summed-last _ _ _ _ (c .before .loop .inv) (omega arith)
+returns c = levels-last _ _ _ _ (c .before .loop .inv) (omega arith)
 
 pub risen-spec : {M : Type 1} → statement M
 risen-spec =
