@@ -123,13 +123,14 @@ impl Memory {
     }
 }
 
-/// How long one call can run, whatever is in the array. Without a link number it is refused.
+/// How long one take, look or insert can run, whatever is in the array. Without a link
+/// number it is refused.
 fn check_limit(before: &[u64], call: Call, steps: u64) -> Result<(), String> {
     let links = link_number(before);
     let most = match call {
         Call::Take | Call::Look => links.map_or(0, longest_take),
         Call::Insert(..) => links.map_or(0, longest_insert),
-        Call::Setup(_) | Call::Held | Call::Audit => 0,
+        Call::Setup(_) | Call::Held | Call::Audit => return Ok(()),
     };
     if steps <= most {
         return Ok(());
