@@ -1,0 +1,9 @@
+pub mod ClockLaws
+pub mod OrderLaws
+pub mod NumberLaws
+pub mod PairLaws
+pub mod SignedLaws
+pub mod RowLaws
+pub mod HalvingLaws
+pub mod CheckLaws
+pub mod ReportLaws

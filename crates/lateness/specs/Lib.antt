@@ -1,0 +1,5 @@
+pub mod Clock
+pub mod Ordered
+pub mod Pairs
+pub mod Reports
+pub mod Examples
