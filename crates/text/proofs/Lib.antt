@@ -1,3 +1,4 @@
 pub mod DecimalLaws
 pub mod LaidLaws
 pub mod Loops
+pub mod SignedLaws

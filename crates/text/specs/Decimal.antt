@@ -3,6 +3,7 @@ use mathlib.Core.Bool.{true, false}
 use mathlib.Core.List.{List, [], _∷_, _++_}
 use Prim.Native.Nat.{ℕ, zero, suc, _+_, _*_, _/_, _%_, _-_}
 use lib.Dec.{ltb}
+use lib.IntN.{ℤ, pos, negsuc}
 
 -- one digit, and one more for each division by ten until one digit is left, of so many divisions tried
 unfoldable pub placesWithin : ℕ → ℕ → ℕ
@@ -22,6 +23,11 @@ digits (suc k) n = digits k (n / 10) ++ ((48 + n % 10) ∷ [])
 -- n as it is written, without a zero in front
 abbrev pub decimal : ℕ → List ℕ
 decimal n = digits (places n) n
+
+-- a number below zero has its sign in front
+unfoldable pub signed : ℤ → List ℕ
+signed (pos n) = decimal n
+signed (negsuc n) = 45 ∷ decimal (suc n)
 
 -- the number that digits write after those of n
 unfoldable pub valueAfter : ℕ → List ℕ → ℕ

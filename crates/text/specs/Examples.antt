@@ -2,7 +2,8 @@
 use mathlib.Core.Path.{_≡_, refl}
 use mathlib.Core.List.{List, [], _∷_}
 use Prim.Native.Nat.{ℕ}
-use Rattle.text.specs.Decimal.{places, digits, decimal, valueAfter, valueOf}
+use lib.IntN.{pos, negsuc}
+use Rattle.text.specs.Decimal.{places, digits, decimal, signed, valueAfter, valueOf}
 
 nought : decimal 0 ≡ 48 ∷ []
 unfolding places digits
@@ -31,3 +32,16 @@ last-written = refl
 last-read : valueOf last ≡ 18446744073709551615
 unfolding valueAfter last
 last-read = refl
+
+-- -12, and the two ends of 64 bits
+early : signed (negsuc 11) ≡ 45 ∷ 49 ∷ 50 ∷ []
+unfolding signed places digits
+early = refl
+
+earliest : signed (negsuc 9223372036854775807) ≡ 45 ∷ 57 ∷ 50 ∷ 50 ∷ 51 ∷ 51 ∷ 55 ∷ 50 ∷ 48 ∷ 51 ∷ 54 ∷ 56 ∷ 53 ∷ 52 ∷ 55 ∷ 55 ∷ 53 ∷ 56 ∷ 48 ∷ 56 ∷ []
+unfolding signed places digits
+earliest = refl
+
+zero-unsigned : signed (pos 0) ≡ 48 ∷ []
+unfolding signed places digits
+zero-unsigned = refl

@@ -2,7 +2,7 @@
 ghost use mathlib.Core.Path.{_≡_};
 ghost use Prim.Native.Nat.{_+_, _≤_};
 ghost use lib.ListN.{length};
-ghost use Rattle.text.specs.Decimal.{places, digits, decimal};
+ghost use Rattle.text.specs.Decimal.{places, digits, decimal, signed};
 ghost use Rattle.text.specs.Laid.{Laid};
 
 fn places(n: u64) -> usize
@@ -51,4 +51,17 @@ pub fn lay_number(out: &mut [u8], at: usize, n: u64) -> usize
     let end = at + places(n);
     put(&mut out[at..end], n);
     end
+}
+
+// The same for a number below zero, too, behind its sign; 21 bytes are room for every one.
+pub fn lay_signed(out: &mut [u8], at: usize, n: i64) -> usize
+    requires { ⌜ at + 21 ≤ length (now out) ⌝ }
+    ensures { λ r. ⌜ Laid (signed n) at (now (out .entry)) (now (out .exit)) r ⌝ }
+{
+    if n < 0 {
+        let behind = lay(out, at, b"-");
+        let below = (-1 - n) as u64;
+        return lay_number(out, behind, below + 1);
+    }
+    lay_number(out, at, n as u64)
 }
