@@ -5,22 +5,29 @@ use mathlib.Core.List.{List, [], _∷_}
 use Prim.Native.Nat.{ℕ, zero, suc, _+_, _/_, _≤_, _<_}
 use native.Mathlib.Omega.{arith}
 use lib.ListN.{length}
-use lib.IntN.{ℤ}
+use lib.IntN.{ℤ, pos}
+use lib.Signed.{mag}
 use mir.Syntax.{w64}
 use mir.Val.{SFits, toZ, ofZ}
 use Rattle.rules.proofs.Sizes.{by-eqb}
-use Rattle.lateness.specs.Ordered.{numbered, Numbered}
+use Rattle.lateness.specs.Ordered.{inOrder, numbered, Numbered}
 use Rattle.lateness.specs.Pairs.{pairsOf, ofDoor, Lent}
-use Rattle.lateness.specs.Reports.{seenOf, Few, rowOf, firstAbove, answerOf, reportFrom, reportOf}
+use Rattle.lateness.specs.Clock.{half}
+use Rattle.lateness.specs.Reports.{sumOf, hits, seenOf, Few, rowOf, firstAbove, answerOf, reportFrom, reportOf}
 use Rattle.lateness.specs.declared.Seen.{Seen}
 use Rattle.lateness.specs.declared.Row.{Row}
 use Rattle.lateness.specs.declared.Report.{Report}
 use Rattle.lateness.proofs.ClockLaws.{small, under-or-not}
+use Rattle.lateness.proofs.PairLaws.{door-within, number-within}
 use Rattle.lateness.proofs.SignedLaws.{back, fits-half}
 use Rattle.lateness.proofs.RowLaws.{none, seen-few}
 use Rattle.lateness.proofs.CheckLaws.{other-dues, other-actings, too-many}
 
 -- ---- a row
+
+pub no-pairs : {seen : Seen} → seen ≡ seenOf [] → record { seen = seen; median = pos 0 } ≡ rowOf []
+unfolding numbered inOrder
+no-pairs e = λ i. record { seen = e i; median = pos 0 }
 
 module _ (door : ℕ) {due acting doors : List ℕ} (lent : Lent due acting doors) (seen : Seen) (told : seen ≡ seenOf (ofDoor door (pairsOf due acting doors))) where
   few : Few seen
@@ -44,22 +51,11 @@ module _ (door : ℕ) {due acting doors : List ℕ} (lent : Lent due acting door
       }
 
   pub row-is : (median : ℤ) → SFits w64 median → median ≡ numbered ((seen .count + 1) / 2) (ofDoor door (pairsOf due acting doors))
-      → record {
-        count = seen .count;
-        earliest = toZ w64 (ofZ w64 (seen .earliest));
-        latest = toZ w64 (ofZ w64 (seen .latest));
-        sum = toZ w64 (ofZ w64 (seen .sum));
-        exact = seen .exact;
-        median = toZ w64 (ofZ w64 median);
-      } ≡ rowOf (ofDoor door (pairsOf due acting doors))
+      → record { seen = seen; median = toZ w64 (ofZ w64 median) } ≡ rowOf (ofDoor door (pairsOf due acting doors))
   row-is median f e =
       let count = ap (λ s. s .count) told in
-      let earliest = back (fits-half (few .first)) ∙ ap (λ s. s .earliest) told in
-      let latest = back (fits-half (few .last)) ∙ ap (λ s. s .latest) told in
-      let sum = back (small (omega (arith, few .total))) ∙ ap (λ s. s .sum) told in
-      let exact = ap (λ s. s .exact) told in
       let middle = back f ∙ e ∙ ap (λ n. numbered ((n + 1) / 2) (ofDoor door (pairsOf due acting doors))) count in
-      λ i. record { count = count i; earliest = earliest i; latest = latest i; sum = sum i; exact = exact i; median = middle i }
+      λ i. record { seen = told i; median = middle i }
 
 -- ---- a report
 
@@ -91,3 +87,36 @@ module _ (due acting doors : List ℕ) where
     report-done z b l r =
         let rows : record { answer = a; both = both; left = left; right = right } ≡ reportFrom 0 (pairsOf due acting doors) = λ i. record { answer = z i; both = b i; left = l i; right = r i } in
         rows ∙ ap (λ a. reportFrom a (pairsOf due acting doors)) (sym z ∙ e)
+
+-- ---- how large the numbers of a report can be
+
+nothing-few : Few (seenOf [])
+unfolding numbered inOrder sumOf hits
+nothing-few = record { counts = omega arith; exacts = omega arith; first = omega arith; last = omega arith; total = omega arith }
+
+-- a row's numbers of so few pairs
+pub record Small (row : Row) : Type 0 where
+  pub seen : Few (row .seen)
+  pub middle : mag (row .median) < half
+
+small-none : Small (rowOf [])
+unfolding numbered inOrder
+small-none = record { seen = nothing-few; middle = omega arith }
+
+small-row : (door : ℕ) {due acting doors : List ℕ} → Lent due acting doors → Small (rowOf (ofDoor door (pairsOf due acting doors)))
+small-row door {due} {acting} {doors} lent = record {
+  seen = few door lent (seenOf (ofDoor door (pairsOf due acting doors))) refl;
+  middle = number-within ((length (ofDoor door (pairsOf due acting doors)) + 1) / 2) (ofDoor door (pairsOf due acting doors)) (door-within door (pairsOf due acting doors));
+}
+
+-- each row of a report, refused or not
+module _ (due acting doors : List ℕ) (P : Row → Type 0) (none : P (rowOf [])) (some : (door : ℕ) → Lent due acting doors → P (rowOf (ofDoor door (pairsOf due acting doors)))) where
+  by-answer : (a : ℕ) → a ≡ answerOf due acting doors → P (reportFrom a (pairsOf due acting doors) .both) × P (reportFrom a (pairsOf due acting doors) .left) × P (reportFrom a (pairsOf due acting doors) .right)
+  by-answer zero e = let lent = done-lent due acting doors (sym e) in (some 0 lent, some 1 lent, some 2 lent)
+  by-answer (suc a) e = (none, none, none)
+
+  pub each-row : P (reportOf due acting doors .both) × P (reportOf due acting doors .left) × P (reportOf due acting doors .right)
+  each-row = by-answer (answerOf due acting doors) refl
+
+pub rows-small : (due acting doors : List ℕ) → Small (reportOf due acting doors .both) × Small (reportOf due acting doors .left) × Small (reportOf due acting doors .right)
+rows-small due acting doors = each-row due acting doors Small small-none (λ door lent. small-row door lent)

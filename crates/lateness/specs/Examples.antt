@@ -40,9 +40,9 @@ halfClockBack = refl
 aDay : reportOf (100 ∷ 200 ∷ 0 ∷ 300 ∷ 7 ∷ 7 ∷ 7 ∷ 2147483648 ∷ 7 ∷ []) (107 ∷ 188 ∷ 2147483647 ∷ 340 ∷ 7 ∷ 10 ∷ 8 ∷ 0 ∷ 7 ∷ []) (1 ∷ 1 ∷ 2 ∷ 1 ∷ 0 ∷ 0 ∷ 0 ∷ 2 ∷ 0 ∷ [])
     ≡ record {
       answer = 0;
-      both = record { count = 4; earliest = pos 0; latest = pos 3; sum = pos 4; exact = 2; median = pos 0 };
-      left = record { count = 3; earliest = negsuc 11; latest = pos 40; sum = pos 35; exact = 0; median = pos 7 };
-      right = record { count = 2; earliest = negsuc 2147483647; latest = pos 2147483647; sum = negsuc 0; exact = 0; median = negsuc 2147483647 };
+      both = record { seen = record { count = 4; earliest = pos 0; latest = pos 3; sum = pos 4; exact = 2 }; median = pos 0 };
+      left = record { seen = record { count = 3; earliest = negsuc 11; latest = pos 40; sum = pos 35; exact = 0 }; median = pos 7 };
+      right = record { seen = record { count = 2; earliest = negsuc 2147483647; latest = pos 2147483647; sum = negsuc 0; exact = 0 }; median = negsuc 2147483647 };
     }
 unfolding answerOf firstAbove pairsOf ofDoor latenessOf distance numbered inOrder putIn sumOf hits
 aDay = refl
@@ -52,7 +52,7 @@ none : reportOf [] [] [] ≡ record { answer = 0; both = rowOf []; left = rowOf 
 unfolding answerOf firstAbove pairsOf ofDoor
 none = refl
 
-zeros : rowOf [] ≡ record { count = 0; earliest = pos 0; latest = pos 0; sum = pos 0; exact = 0; median = pos 0 }
+zeros : rowOf [] ≡ record { seen = record { count = 0; earliest = pos 0; latest = pos 0; sum = pos 0; exact = 0 }; median = pos 0 }
 unfolding numbered inOrder sumOf hits
 zeros = refl
 

@@ -38,14 +38,7 @@ pub record Few (seen : Seen) : Type 0 where
 
 -- the lower median of n in order is number (n + 1) / 2, rounded down; "a door without pairs prints zeros"
 abbrev pub rowOf : List ℤ → Row
-rowOf xs = record {
-  count = length xs;
-  earliest = numbered 1 xs;
-  latest = numbered (length xs) xs;
-  sum = sumOf xs;
-  exact = hits xs;
-  median = numbered ((length xs + 1) / 2) xs;
-}
+rowOf xs = record { seen = seenOf xs; median = numbered ((length xs + 1) / 2) xs }
 
 -- how many door bytes stand before the first that is above 2
 unfoldable pub firstAbove : List ℕ → ℕ

@@ -40,11 +40,7 @@ pub struct Seen {
 
 // One door's numbers.
 pub struct Row {
-    pub count: u64,
-    pub earliest: i64,
-    pub latest: i64,
-    pub sum: i64,
-    pub exact: u64,
+    pub seen: Seen,
     pub median: i64,
 }
 
@@ -92,6 +88,18 @@ fn hit(late: i64) -> u64
     0
 }
 
+fn nothing() -> Seen
+    ensures { λ r. ⌜ r ≡ seenOf [] ⌝ }
+{
+    Seen {
+        count: 0,
+        earliest: 0,
+        latest: 0,
+        sum: 0,
+        exact: 0,
+    }
+}
+
 // One pair more.
 fn with(late: i64, seen: Seen) -> Seen
     requires { ⌜ mag late < half ⌝ }
@@ -126,13 +134,7 @@ fn seen_of(due: &[u32], acting: &[u32], doors: &[u8], door: u8) -> Seen
     requires { ⌜ Lent (now due) (now acting) (now doors) ⌝ }
     ensures { λ r. ⌜ r ≡ seenOf (ofDoor door (pairsOf (now (due .entry)) (now (acting .entry)) (now (doors .entry)))) ⌝ }
 {
-    let mut so_far = Seen {
-        count: 0,
-        earliest: 0,
-        latest: 0,
-        sum: 0,
-        exact: 0,
-    };
+    let mut so_far = nothing();
     let mut i = doors.len();
     while 0 < i {
         i -= 1;
@@ -207,11 +209,7 @@ fn zeros() -> Row
     ensures { λ r. ⌜ r ≡ rowOf [] ⌝ }
 {
     Row {
-        count: 0,
-        earliest: 0,
-        latest: 0,
-        sum: 0,
-        exact: 0,
+        seen: nothing(),
         median: 0,
     }
 }
@@ -227,17 +225,9 @@ fn row_of(due: &[u32], acting: &[u32], doors: &[u8], door: u8) -> Row
     }
     let earliest = seen.earliest;
     let latest = seen.latest;
-    let sum = seen.sum;
     let middle = (count + 1) / 2;
     let median = number_in_order(due, acting, doors, door, middle, earliest, latest);
-    Row {
-        count,
-        earliest,
-        latest,
-        sum,
-        exact: seen.exact,
-        median,
-    }
+    Row { seen, median }
 }
 
 // The place of the first door byte above 2, or behind the last.

@@ -8,8 +8,8 @@ use Rattle.lateness.proofs.row_of.Tie as tie
 abbrev start : tie.After-seen-of → tie.Start
 start c = c .before .before .before .before
 
-abbrev pass : tie.After-struct-told3 → tie.After-seen-of
-pass c = c .before .before .before .before
+abbrev pass : tie.After-struct-told2 → tie.After-seen-of
+pass c = c .before .before .before
 
 seen-of-requires : tie.Need-seen-of-requires
 seen-of-requires c κs = search needs
@@ -24,7 +24,7 @@ add-middle : tie.Need-add-middle
 add-middle c = let s = pass c in record { fits = omega (arith, count-few _ (start s .pre) _ (s .seen-of .ensures)) }
 
 number-in-order-requires : tie.Need-number-in-order-requires
-number-in-order-requires c κs = let s = pass c in (start s .pre, middle-number _ (start s .pre) _ (s .seen-of .ensures) (c .before .before .before .if1 .left))
+number-in-order-requires c κs = let s = pass c in (start s .pre, middle-number _ (start s .pre) _ (s .seen-of .ensures) (c .before .before .if1 .left))
 
 returns-2 : tie.Need-returns-2
 returns-2 c = let s = pass (c .before) in row-is _ (start s .pre) _ (s .seen-of .ensures) _ (small (c .number-in-order .ok)) (c .number-in-order .ensures)

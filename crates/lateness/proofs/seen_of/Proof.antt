@@ -1,8 +1,6 @@
 use native.Mathlib.Omega.{arith}
 use mathlib.Core.Path.{refl}
-use mathlib.Core.List.{[]}
-use Rattle.lateness.specs.Ordered.{inOrder, numbered}
-use Rattle.lateness.specs.Reports.{sumOf, hits, seenOf}
+use Rattle.lateness.specs.Reports.{seenOf}
 use Rattle.lateness.proofs.PairLaws.{Passed, passed-none, passed-yes, passed-no, passed-all}
 use Rattle.lateness.proofs.ClockLaws.{small}
 use Rattle.lateness.proofs.SignedLaws.{late-small, seen-read}
@@ -17,14 +15,16 @@ abbrev μ-loop : tie.MeasureT-loop
 μ-loop due acting doors door so-far₀ i₀ so-far i = i
 
 abbrev start : tie.At-loop Inv-loop μ-loop → tie.Start Inv-loop μ-loop
-start c = c .before .before .before .before
+start c = c .before .before .before .before .before
 
 abbrev turn-of : tie.After-lateness Inv-loop μ-loop → tie.In-loop Inv-loop μ-loop
 turn-of c = c .before .before .before .before .before
 
+nothing-requires : tie.Need-nothing-requires Inv-loop μ-loop
+nothing-requires c κs = tt
+
 loop-holds : tie.Need-loop-holds Inv-loop μ-loop
-unfolding numbered inOrder sumOf hits
-loop-holds c = passed-none seenOf (c .before .before .before .pre) refl refl
+loop-holds c = passed-none seenOf (c .before .before .before .before .pre) refl (c .nothing .ensures)
 
 sub-i : tie.Need-sub-i Inv-loop μ-loop
 sub-i c = omega arith
@@ -75,6 +75,7 @@ seen-of-spec =
     (tie.spec
     Inv-loop
     μ-loop
+    nothing-requires
     loop-holds
     sub-i
     shared-slice-read-if1

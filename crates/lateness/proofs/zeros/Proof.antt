@@ -1,12 +1,17 @@
-use mathlib.Core.Path.{refl}
+use mathlib.Core.Path.{_≡_, ap}
+use mathlib.Core.List.{[]}
+use borrow.Author.Needs.{needs}
 use Rattle.lateness.specs.Ordered.{inOrder, numbered}
-use Rattle.lateness.specs.Reports.{sumOf, hits}
+use Rattle.lateness.specs.declared.Row.{Row}
+use Rattle.lateness.proofs.ReportLaws.{no-pairs}
 use Rattle.lateness.proofs.zeros.Statement.{statement}
 use Rattle.lateness.proofs.zeros.Tie as tie
 
+nothing-requires : tie.Need-nothing-requires
+nothing-requires c κs = search needs
+
 returns : tie.Need-returns
-unfolding numbered inOrder sumOf hits
-returns c = refl
+returns c = no-pairs (c .nothing .ensures)
 
 pub zeros-spec : {M : Type 1} → statement M
-zeros-spec = tie.close (tie.spec returns)
+zeros-spec = tie.close (tie.spec nothing-requires returns)
