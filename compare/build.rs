@@ -27,7 +27,7 @@ fn main() {
     println!("cargo:rerun-if-env-changed=GORGALHUT_LIB_NAME");
     println!("cargo:rerun-if-changed=build.rs");
     // Calls bring takes with them.
-    let queue = ["BOOK", "TAKES", "INSERT", "FRAMES"]
+    let queue = ["BOOK", "TAKES", "INSERT", "FRAMES", "LATENESS"]
         .into_iter()
         .any(feature);
     let joins = feature("JOINS");

@@ -36,13 +36,14 @@ const TAKES: [Call; 3] = [Call::Take, Call::Look, Call::Held];
 /// The calls of a group to be made on an array, each on a copy of its own.
 fn calls_on(group: Group, source: &mut Arrays, words: &[u64]) -> Vec<Call> {
     match group {
-        Group::Book | Group::Abuse | Group::Longest | Group::Frames | Group::Joins => Vec::new(),
         Group::Takes => TAKES.to_vec(),
         Group::Calls => {
             let setup = Call::Setup(source.some_setup(words.len()));
             [&[setup][..], &TAKES, &[Call::Audit]].concat()
         }
         Group::Insert => vec![some_insert(source, words), some_insert(source, words)],
+        // The others make no calls of their own on an array.
+        _ => Vec::new(),
     }
 }
 

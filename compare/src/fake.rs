@@ -2,6 +2,7 @@
 //! the variable GORGALHUT_FAULT. It shows that the comparison sees them.
 
 mod joins;
+mod lateness;
 
 use crate::frames::ANSWERS;
 use crate::tally::name;

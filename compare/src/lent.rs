@@ -19,6 +19,22 @@ impl Unit for u64 {
     }
 }
 
+impl Unit for u32 {
+    const NAME: &'static str = "ticks";
+
+    fn canary(at: usize) -> u32 {
+        0xC0DE_0000 ^ at as u32
+    }
+}
+
+impl Unit for i64 {
+    const NAME: &'static str = "numbers";
+
+    fn canary(at: usize) -> i64 {
+        u64::canary(at) as i64
+    }
+}
+
 impl Unit for u8 {
     const NAME: &'static str = "bytes";
 

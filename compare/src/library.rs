@@ -1,6 +1,7 @@
 //! The library's functions by their C names, and one safe way to call each.
 
 pub mod joins;
+pub mod lateness;
 
 use crate::lent::Lent;
 use reference::array::calls::Call;

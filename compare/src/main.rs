@@ -10,10 +10,12 @@
 mod abuse;
 mod arrays;
 mod check;
+mod days;
 #[cfg(feature = "fake")]
 mod fake;
 mod frames;
 mod joins;
+mod lateness;
 mod lent;
 mod library;
 mod longest;
@@ -39,6 +41,7 @@ fn built_in(group: Group) -> bool {
         Group::Longest => built_in(Group::Takes) && built_in(Group::Insert),
         Group::Frames => cfg!(feature = "frames"),
         Group::Joins => cfg!(feature = "joins"),
+        Group::Lateness => cfg!(feature = "lateness"),
     }
 }
 
@@ -49,17 +52,18 @@ fn compare(options: &Options, tally: &mut Tally) -> Result<(), String> {
         Group::Longest => return longest::compare(options, &mut memory, tally),
         Group::Frames => return frames::compare(options, tally),
         Group::Joins => return joins::compare(options, tally),
+        Group::Lateness => return lateness::compare(options, tally),
         _ => {}
     }
     let mut source = arrays::compare(options, &mut memory, tally)?;
     match options.group {
-        Group::Book | Group::Abuse | Group::Longest | Group::Frames | Group::Joins => Ok(()),
         Group::Takes | Group::Calls => sessions::emptying(options, &mut source, &mut memory, tally),
         Group::Insert if built_in(Group::Calls) => sessions::whole(options, &mut memory, tally),
         Group::Insert => {
             println!("no sessions: calls are not built in");
             Ok(())
         }
+        _ => Ok(()),
     }
 }
 
@@ -82,6 +86,10 @@ fn main() -> ExitCode {
     let outcome = compare(&options, &mut tally);
     print!("{tally}");
     match outcome {
+        Ok(()) if !tally.never_met().is_empty() => {
+            println!("no difference, but never met: {}", tally.never_met());
+            ExitCode::FAILURE
+        }
         Ok(()) => {
             println!("no difference");
             ExitCode::SUCCESS

@@ -11,6 +11,7 @@ pub enum Group {
     Longest,
     Frames,
     Joins,
+    Lateness,
 }
 
 #[derive(Clone, Copy, Debug, PartialEq, Eq)]
@@ -22,7 +23,7 @@ pub struct Options {
     pub from: usize,
     /// Calls in sessions; as many as arrays if nothing is said.
     pub session_calls: usize,
-    /// Calls, or lines, of abuse, frames and joins.
+    /// Calls, lines or days of abuse, frames, joins and lateness.
     pub calls: usize,
     pub trace: bool,
     /// Lends memory without canaries, for a tool that watches its bounds.
@@ -38,10 +39,12 @@ compare abuse              all six calls, mixed, on arrays that stay as they wer
 compare longest            take, look and insert on sound books, and how long they run
 compare frames             lines read and written, and the tally
 compare joins              two runs joined, and a part of them merged
+compare lateness           the report of how early or late the doors were
   --arrays N               how many arrays (1000)
   --seed N                 the seed (1)
   --session-calls N        how many calls in sessions (as many as arrays)
-  --calls N                how many calls of abuse, lines of frames or pairs of runs (1000)
+  --calls N                how many calls of abuse, lines of frames, pairs of runs or
+                           days of lateness (1000)
   --from N                 compare from array number N on; those before are only made
   --exact                  lend memory without canaries, each time of just its length
   --trace                  tell every call on standard error before it is made
@@ -59,6 +62,7 @@ pub fn read_options(arguments: &[String]) -> Result<Options, String> {
         Some("longest") => Group::Longest,
         Some("frames") => Group::Frames,
         Some("joins") => Group::Joins,
+        Some("lateness") => Group::Lateness,
         _ => return Err(format!("what to compare is needed\n{HELP}")),
     };
     let mut options = Options {

@@ -1,5 +1,6 @@
 //! Arrays and queues in a few lines, for the report of a difference.
 
+use crate::days::Day;
 use reference::array::{buffer, decode, stretches, Stretch};
 use reference::queue::Queue;
 
@@ -16,6 +17,26 @@ pub fn entries<'a>(list: impl ExactSizeIterator<Item = &'a u64>) -> String {
     let more = if list.len() > 24 { " .." } else { "" };
     let shown: Vec<String> = list.take(24).map(|entry| format!("{entry:x}")).collect();
     format!("[{}{more}]", shown.join(" "))
+}
+
+/// The counts of what is lent for a report of lateness, and the first pairs.
+pub fn day(day: &Day) -> String {
+    let Day {
+        due,
+        acting,
+        doors,
+        report,
+    } = day;
+    let counts = [due.len(), acting.len(), doors.len(), *report];
+    let ticks = due.iter().zip(acting).zip(doors);
+    let shown: Vec<String> = ticks
+        .take(24)
+        .map(|((due, acting), door)| format!("{due:x} {acting:x} {door:x}"))
+        .collect();
+    format!(
+        "due, acting, doors and report {counts:?}, pairs [{}]",
+        shown.join(", ")
+    )
 }
 
 /// Link number, counters and every buffer that has entries.

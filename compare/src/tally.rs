@@ -43,6 +43,9 @@ pub struct Tally {
     lines: usize,
     /// Joins and parts.
     joins: BTreeMap<&'static str, Joins>,
+    days: usize,
+    /// What days of pairs are there for, and how often each was met.
+    met: BTreeMap<&'static str, usize>,
 }
 
 #[derive(Default)]
@@ -111,6 +114,22 @@ impl Tally {
         block.into_iter().for_each(|run| joins.blocks[run] += 1);
     }
 
+    pub fn add_day(&mut self) {
+        self.days += 1;
+    }
+
+    /// Something was met so often in a day; with 0 it is to be met by others.
+    pub fn add_met(&mut self, what: &'static str, many: usize) {
+        *self.met.entry(what).or_default() += many;
+    }
+
+    /// What a comparison is there for and did not meet.
+    pub fn never_met(&self) -> String {
+        let never = self.met.iter().filter(|&(_, &many)| many == 0);
+        let names: Vec<&str> = never.map(|(&what, _)| what).collect();
+        names.join("; ")
+    }
+
     fn write_longest(&self, out: &mut Formatter) -> fmt::Result {
         for (links, Longest { take, insert }) in &self.longest_random {
             writeln!(
@@ -126,6 +145,12 @@ impl Tally {
             )?;
         }
         Ok(())
+    }
+
+    fn write_days(&self, out: &mut Formatter) -> fmt::Result {
+        writeln!(out, "days {}", self.days)?;
+        let mut met = self.met.iter();
+        met.try_for_each(|(what, many)| writeln!(out, "  {what}: {many}"))
     }
 
     fn write_joins(&self, out: &mut Formatter) -> fmt::Result {
@@ -155,6 +180,9 @@ impl Display for Tally {
         }
         if !self.joins.is_empty() {
             return self.write_joins(out);
+        }
+        if !self.met.is_empty() {
+            return self.write_days(out);
         }
         let arrays: usize = self.links.values().sum();
         writeln!(out, "arrays {arrays}")?;

@@ -300,6 +300,7 @@ fn no_fault_no_difference_in_calls() {
         ("abuse", "\ncalls 30000, "),
         ("frames", "\nlines, orders"),
         ("joins", "\nparts: "),
+        ("lateness", "\ndays 30000\n"),
     ] {
         let text = called(group, "", 0);
         assert!(text.contains(told), "{text}");
@@ -363,6 +364,65 @@ fn joins_and_parts() {
         ("part-first-off-by-one", "expected JoinGot"),
     ] {
         seen_in_calls("joins", fault, report);
+    }
+}
+
+#[test]
+fn lateness() {
+    for (fault, report) in [
+        ("half-late", " of the report: expected -2147483648, got "),
+        ("plain", " of the report: expected"),
+        ("unsigned", " of the report: expected -"),
+        ("both-added", " of the report: expected"),
+        ("upper-median", " of the report: expected"),
+        ("median-unsorted", " of the report: expected"),
+        ("earliest-from-zero", "got 0"),
+        ("latest-from-zero", "got 0"),
+        ("exact-within-1", " of the report: expected"),
+        ("sum-of-32-bits", " of the report: expected"),
+        ("empty-row", "expected 0, got 9223372036854775807"),
+        ("door-first", "expected answer 15, got 7"),
+        ("lending-last", "expected answer 10, got "),
+        ("door-3", "expected answer 7, got 0"),
+        ("most-4095", "expected answer 0, got 15"),
+        ("most-4097", "expected answer 15, got 0"),
+        ("due-unchecked", "expected answer 10, got 0"),
+        ("acting-unchecked", "expected answer 10, got 0"),
+        ("doors-unchecked", "expected answer 10, got 0"),
+        ("report-17", "expected answer 10, got 0"),
+        ("rows-with-7", " of the report: expected 0, got "),
+        ("written-with-10", "number 0 of the report: expected "),
+        (
+            "unwritten-with-7",
+            "number 0 of the report: expected 0, got ",
+        ),
+        (
+            "unwritten-with-15",
+            "number 0 of the report: expected 0, got ",
+        ),
+        ("written-behind", "number 18 of the report: expected "),
+        ("report-behind", "written 1 numbers behind the report"),
+        ("writes-due", "number 0 of due ticks: expected "),
+        ("writes-acting", " of acting ticks: expected "),
+        ("writes-doors", "number 0 of doors: expected "),
+    ] {
+        let fault = format!("lateness-{fault}");
+        seen_in_calls("lateness", &fault, report);
+    }
+}
+
+/// Few days are enough to meet all that they are there for; fewer are a fault.
+#[test]
+fn lateness_of_every_kind() {
+    for seed in ["1", "2"] {
+        let arguments = ["lateness", "--calls", "400", "--seed", seed];
+        assert!(text(&compare(&arguments, "")).ends_with("\nno difference\n"));
+    }
+    for calls in ["0", "40"] {
+        let output = compare(&["lateness", "--calls", calls], "");
+        assert_eq!(output.status.code(), Some(1));
+        let told = "\nno difference, but never met: answered ";
+        assert!(text(&output).contains(told), "{}", text(&output));
     }
 }
 

@@ -28,7 +28,7 @@ fn digit(byte: u8) -> Option<u8> {
 }
 
 /// The bytes two digits each stand for; none if a digit is bad or left alone.
-fn bytes_of(line: &[u8]) -> Option<Vec<u8>> {
+pub fn bytes_of(line: &[u8]) -> Option<Vec<u8>> {
     if !line.len().is_multiple_of(2) {
         return None;
     }

@@ -8,6 +8,7 @@ pub mod array;
 pub mod frames;
 pub mod generate;
 pub mod joining;
+pub mod lateness;
 pub mod limits;
 pub mod links;
 pub mod machine;

@@ -1,7 +1,9 @@
-//! The program: runs frames, writes a generated session of frames, or prints limits.
+//! The program: runs frames, reports lateness, writes a generated session of frames or day
+//! of pairs, or prints limits.
 
 use reference::frames::run_frames;
 use reference::generate::session;
+use reference::lateness::{self, generate::day};
 use reference::limits;
 use reference::machine::Machine;
 use reference::options::{read_options, Options, HELP};
@@ -14,6 +16,8 @@ fn run(options: &Options) -> io::Result<()> {
         output.write_all(HELP.as_bytes())?;
     } else if options.limits {
         output.write_all(limits::text().as_bytes())?;
+    } else if options.generate && options.late {
+        output.write_all(&day(options.seed))?;
     } else if options.generate {
         output.write_all(&session(options))?;
     } else {
@@ -28,6 +32,28 @@ fn run(options: &Options) -> io::Result<()> {
     output.flush()
 }
 
+/// Reads a day of lines and writes its report; otherwise the line that says why not.
+fn report_lateness() -> Result<(), String> {
+    let lines = lateness::read_lines(io::stdin().lock());
+    let lines = lines.map_err(|error| format!("read: {error}"))?;
+    let report = lateness::report_of(&lines).map_err(|refusal| refusal.to_string())?;
+    let mut output = io::stdout().lock();
+    output
+        .write_all(lateness::text(&report).as_bytes())
+        .and_then(|()| output.flush())
+        .map_err(|error| format!("write: {error}"))
+}
+
+fn late() -> ExitCode {
+    match report_lateness() {
+        Ok(()) => ExitCode::SUCCESS,
+        Err(line) => {
+            eprintln!("{line}");
+            ExitCode::FAILURE
+        }
+    }
+}
+
 fn main() -> ExitCode {
     let arguments: Result<Vec<String>, _> = std::env::args_os()
         .skip(1)
@@ -37,6 +63,7 @@ fn main() -> ExitCode {
         .map_err(|word| format!("unknown option {}", word.to_string_lossy()))
         .and_then(|words| read_options(&words));
     let outcome = match options {
+        Ok(options) if options.only_late() => return late(),
         Ok(options) => run(&options),
         Err(message) => {
             eprintln!("reference: {message}");

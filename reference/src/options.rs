@@ -5,6 +5,7 @@
 pub struct Options {
     pub help: bool,
     pub limits: bool,
+    pub late: bool,
     pub counts: bool,
     pub generate: bool,
     pub plain: bool,
@@ -28,6 +29,11 @@ reference --generate       write a seeded random session of frames
                            for 4, give --array 28436 --work 17280 here as well
   --plain                  valid orders only, with many ties
   --array N, --work N      the memory the session is meant for, as above
+reference --late           read pairs of due and acting tick on standard input, write
+                           how early or late each door was, or why there is no report
+reference --generate --late
+                           write a seeded random day of lines for it, so many as it has
+  --seed N                 the seed (1)
 reference --limits         print for each number of links how large a queue is
                            and how long one call can run
 reference --help           this text
@@ -39,6 +45,7 @@ impl Default for Options {
         Options {
             help: false,
             limits: false,
+            late: false,
             counts: false,
             generate: false,
             plain: false,
@@ -51,6 +58,13 @@ impl Default for Options {
     }
 }
 
+impl Options {
+    /// Pairs are to be read, not generated.
+    pub fn only_late(&self) -> bool {
+        self.late && !(self.help || self.limits || self.generate)
+    }
+}
+
 /// Reads the command line, without the program's own name.
 pub fn read_options(arguments: &[String]) -> Result<Options, String> {
     let mut options = Options::default();
@@ -59,6 +73,7 @@ pub fn read_options(arguments: &[String]) -> Result<Options, String> {
         match word.as_str() {
             "--help" => options.help = true,
             "--limits" => options.limits = true,
+            "--late" => options.late = true,
             "--counts" => options.counts = true,
             "--generate" => options.generate = true,
             "--plain" => options.plain = true,

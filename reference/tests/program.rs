@@ -1,6 +1,7 @@
 //! The program itself: any bytes on standard input, and its options.
 
 use reference::generate::session;
+use reference::lateness::generate::day;
 use reference::options::{read_options, Options};
 use std::io::Write;
 use std::process::{Command, Output, Stdio};
@@ -108,9 +109,55 @@ fn generated_session_goes_through() {
     assert_eq!(answers(&[], &output.stdout).lines().count(), 4000);
 }
 
+/// Standard output and standard error of a day of lines.
+fn late(input: &[u8]) -> (String, String) {
+    let output = run(&["--late"], input);
+    let [told, said] = [output.stdout, output.stderr].map(|text| String::from_utf8(text).unwrap());
+    assert_eq!(output.status.success(), said.is_empty());
+    (told, said)
+}
+
+#[test]
+fn lateness_reported_or_refused() {
+    let (told, said) = late(b"FFFFFFFF0000000601\n000000060000000601");
+    assert!(told
+        .contains("\nleft   count 2  earliest 0  latest 7  sum 7  exact 1  median 0  mean 7/2\n"));
+    assert_eq!((told.lines().count(), said.as_str()), (3, ""));
+    for (input, line) in [
+        ("\n".repeat(4097), "refused 15: more than 4096 lines\n"),
+        ("0".repeat(1 << 20), "refused 10: line 1 is no pair\n"),
+        (
+            "00".repeat(8) + "03",
+            "refused 7: line 1 has a door above 2\n",
+        ),
+    ] {
+        assert_eq!(late(input.as_bytes()), (String::new(), line.to_string()));
+    }
+}
+
+#[test]
+fn lateness_that_cannot_be_read_or_written() {
+    let program = env!("CARGO_BIN_EXE_reference");
+    let folder = std::fs::File::open(".").unwrap();
+    let full = std::fs::OpenOptions::new().write(true).open("/dev/full");
+    let mut late = Command::new(program);
+    let output = late.arg("--late").stdin(folder).output().unwrap();
+    assert!(output.stdout.is_empty() && output.stderr.starts_with(b"read: "));
+    late.stdin(Stdio::null()).stdout(full.unwrap());
+    let output = late.stderr(Stdio::piped()).spawn().unwrap();
+    let output = output.wait_with_output().unwrap();
+    assert!(output.stderr.starts_with(b"write: "));
+}
+
+#[test]
+fn generated_day_goes_through() {
+    let output = run(&["--generate", "--late", "--seed", "9"], b"");
+    assert!(output.stdout == day(9));
+}
+
 #[test]
 fn help_and_bad_options() {
-    for option in ["--generate", "--limits"] {
+    for option in ["--generate", "--limits", "--late"] {
         assert!(answers(&["--help"], b"").contains(option));
     }
     for bad in [
@@ -146,6 +193,14 @@ fn options_as_read() {
         ..Options::default()
     };
     assert_eq!(read_options(&words("--limits")), Ok(limits));
+    let late = Options {
+        late: true,
+        ..Options::default()
+    };
+    assert!(late.only_late() && !Options::default().only_late());
+    assert_eq!(read_options(&words("--late")), Ok(late));
+    let generated = read_options(&words("--generate --late --seed 4")).unwrap();
+    assert!(generated.generate && generated.late && !generated.only_late());
     assert_eq!(read_options(&[]), Ok(Options::default()));
     let memory = (Options::default().array, Options::default().work);
     assert_eq!(memory, (2628, 960));

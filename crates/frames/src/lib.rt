@@ -67,7 +67,7 @@ fn value(c: u8) -> u64
     16
 }
 
-fn capital(line: &[u8]) -> bool
+pub fn capital(line: &[u8]) -> bool
     ensures { λ r. ⌜ r ≡ capital (now (line .entry)) ⌝ }
 {
     let mut i = 0;
@@ -81,7 +81,7 @@ fn capital(line: &[u8]) -> bool
 }
 
 // The number that a field's digits write, high digit first.
-fn number(field: &[u8]) -> u64
+pub fn number(field: &[u8]) -> u64
     requires { ⌜ Field (now field) ⌝ }
     ensures { λ r. ⌜ r ≡ number (now (field .entry)) ⌝ }
 {

@@ -50,7 +50,7 @@ impl Cutter {
 }
 
 // A byte that is no line end; behind the bytes that are kept it changes nothing.
-fn onward(cutter: Cutter, byte: u8) -> Cutter
+pub fn onward(cutter: Cutter, byte: u8) -> Cutter
     ensures { λ r. ⌜ kept r ≡ decisive (kept cutter ++ (byte ∷ [])) ⌝ }
 {
     let at = cutter.len;
