@@ -1,3 +1,4 @@
 pub mod Answered
 pub mod Numbered
 pub mod Framed
+pub mod Timed

@@ -14,6 +14,11 @@ ghost use Rattle.frames.specs.AnswerLine.{answerLine};
 ghost use Rattle.gorgalhut.specs.Answered.{SetUp, PutIn, TakenOut, LookedAt, Counted, Audited};
 ghost use Rattle.gorgalhut.specs.Numbered.{callOf, named, tallied};
 ghost use Rattle.gorgalhut.specs.Framed.{asked, Lined, FrameRead, FrameWritten};
+ghost use mathlib.Core.List.{_++_};
+ghost use Prim.Native.Nat.{_≤_};
+ghost use lib.ListN.{drop};
+ghost use Rattle.lateness.specs.Reports.{Small};
+ghost use Rattle.gorgalhut.specs.Timed.{numbersOf, timedAnswer, timedReport};
 
 // Whether the array has a book and the book keeps every book rule.
 #[no_mangle]
@@ -279,4 +284,56 @@ pub extern "C" fn gorgalhut_answer_line(
     }
     *written = 0;
     NOT_A_FRAME
+}
+
+// The numbers of a report, six for each of three doors.
+const REPORT: usize = 18;
+
+// Lays a row's six numbers at the beginning.
+fn lay_row(report: &mut [i64], row: lateness::Row)
+    requires { ⌜ 6 ≤ length (now report) ⌝ }
+    requires { ⌜ Small row ⌝ }
+    ensures { λ _. ⌜ now (report .exit) ≡ numbersOf row ++ drop 6 (now (report .entry)) ⌝ }
+{
+    let seen = row.seen;
+    let count = seen.count as i64;
+    let earliest = seen.earliest;
+    let latest = seen.latest;
+    let sum = seen.sum;
+    let exact = seen.exact as i64;
+    let median = row.median;
+    report[0] = count;
+    report[1] = earliest;
+    report[2] = latest;
+    report[3] = sum;
+    report[4] = exact;
+    report[5] = median;
+}
+
+// A day's report from pairs of due and acting tick, each with a door byte: six numbers for both, for left and for right.
+#[no_mangle]
+pub extern "C" fn gorgalhut_lateness(
+    due: &[u32],
+    acting: &[u32],
+    doors: &[u8],
+    report: &mut [i64],
+) -> u8
+    ensures { λ r. ⌜ r ≡ timedAnswer (now (due .entry)) (now (acting .entry)) (now (doors .entry)) (now (report .entry)) ⌝ }
+    ensures { λ r. ⌜ now (report .exit) ≡ timedReport (now (due .entry)) (now (acting .entry)) (now (doors .entry)) (now (report .entry)) ⌝ }
+{
+    if report.len() < REPORT {
+        return NOT_A_FRAME;
+    }
+    let made = lateness::report_of(due, acting, doors);
+    let answer = made.answer;
+    if answer == NOT_A_FRAME {
+        return answer;
+    }
+    let both = made.both;
+    let left = made.left;
+    let right = made.right;
+    lay_row(&mut report[12..], right);
+    lay_row(&mut report[6..], left);
+    lay_row(report, both);
+    answer
 }

@@ -13,7 +13,7 @@ use Rattle.rules.proofs.Sizes.{by-eqb}
 use Rattle.lateness.specs.Ordered.{inOrder, numbered, Numbered}
 use Rattle.lateness.specs.Pairs.{pairsOf, ofDoor, Lent}
 use Rattle.lateness.specs.Clock.{half}
-use Rattle.lateness.specs.Reports.{sumOf, hits, seenOf, Few, rowOf, firstAbove, answerOf, reportFrom, reportOf}
+use Rattle.lateness.specs.Reports.{sumOf, hits, seenOf, Few, Small, rowOf, firstAbove, answerOf, reportFrom, reportOf}
 use Rattle.lateness.specs.declared.Seen.{Seen}
 use Rattle.lateness.specs.declared.Row.{Row}
 use Rattle.lateness.specs.declared.Report.{Report}
@@ -93,11 +93,6 @@ module _ (due acting doors : List ℕ) where
 nothing-few : Few (seenOf [])
 unfolding numbered inOrder sumOf hits
 nothing-few = record { counts = omega arith; exacts = omega arith; first = omega arith; last = omega arith; total = omega arith }
-
--- a row's numbers of so few pairs
-pub record Small (row : Row) : Type 0 where
-  pub seen : Few (row .seen)
-  pub middle : mag (row .median) < half
 
 small-none : Small (rowOf [])
 unfolding numbered inOrder

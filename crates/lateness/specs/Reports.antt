@@ -40,6 +40,11 @@ pub record Few (seen : Seen) : Type 0 where
 abbrev pub rowOf : List ℤ → Row
 rowOf xs = record { seen = seenOf xs; median = numbered ((length xs + 1) / 2) xs }
 
+-- and a row's
+pub record Small (row : Row) : Type 0 where
+  pub seen : Few (row .seen)
+  pub middle : mag (row .median) < half
+
 -- how many door bytes stand before the first that is above 2
 unfoldable pub firstAbove : List ℕ → ℕ
 firstAbove [] = 0
