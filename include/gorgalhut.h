@@ -1,4 +1,5 @@
-/* Gorgalhut: a priority queue of 64-bit entries in an array that the caller lends, its day tally, and its frames.
+/* Gorgalhut: a priority queue of 64-bit entries in an array that the caller lends, its day tally, its frames, and a
+ * report of how punctual the doors were.
  *
  * Every function is proved to answer as said here for every array, work area, line and number there can be: an array
  * of any words, damaged or too short, is refused by its number and left as it was. What no function can see is the
@@ -23,29 +24,32 @@
 #include <stdint.h>
 
 /* The version of header and library; CHANGELOG.md says what each changed. */
-#define GORGALHUT_VERSION "0.3.1"
+#define GORGALHUT_VERSION "0.4.0"
 #define GORGALHUT_VERSION_MAJOR 0
-#define GORGALHUT_VERSION_MINOR 3
-#define GORGALHUT_VERSION_PATCH 1
+#define GORGALHUT_VERSION_MINOR 4
+#define GORGALHUT_VERSION_PATCH 0
 
 #ifdef __cplusplus
 extern "C" {
 #endif
 
 /* The number that every call answers with. Anything but 0 is a refusal, and a refusal changes nothing that was lent
- * except word, steps and packed, which become 0. */
+ * except word, steps and packed, which become 0, and a report, as said there. */
 enum gorgalhut_answer {
-    GORGALHUT_DONE = 0,          /* done */
-    GORGALHUT_NO_SUCH_LINKS = 1, /* setup: links not 1 to 4 */
-    GORGALHUT_ARRAY_SHORT = 2,   /* array shorter than 296 words, or than its links need */
-    GORGALHUT_WORK_SHORT = 3,    /* insert: work area shorter than its links need */
-    GORGALHUT_BOOK_BROKEN = 4,   /* the array's book breaks a book rule: no setup yet, or damaged */
-    GORGALHUT_FULL = 5,          /* insert: as many entries held as its links can hold */
-    GORGALHUT_NONE_HELD = 6,     /* take, look: no entry held */
-    GORGALHUT_DOOR_ABOVE = 7,    /* insert: door above 2 */
+    GORGALHUT_DONE = 0,           /* done */
+    GORGALHUT_NO_SUCH_LINKS = 1,  /* setup: links not 1 to 4 */
+    GORGALHUT_ARRAY_SHORT = 2,    /* array shorter than 296 words, or than its links need */
+    GORGALHUT_WORK_SHORT = 3,     /* insert: work area shorter than its links need */
+    GORGALHUT_BOOK_BROKEN = 4,    /* the array's book breaks a book rule: no setup yet, or damaged */
+    GORGALHUT_FULL = 5,           /* insert: as many entries held as its links can hold */
+    GORGALHUT_NONE_HELD = 6,      /* take, look: no entry held */
+    GORGALHUT_DOOR_ABOVE = 7,     /* insert, lateness: door above 2 */
     /* 8 is not used */
-    GORGALHUT_ORDER_BROKEN = 9,  /* audit: book sound, entries out of order */
-    GORGALHUT_NOT_A_FRAME = 10   /* frames: not a frame, not an order's numbers, or too short a buffer */
+    GORGALHUT_ORDER_BROKEN = 9,   /* audit: book sound, entries out of order */
+    GORGALHUT_NOT_A_FRAME = 10,   /* frames: not a frame, not an order's numbers, or too short a buffer;
+                                   * lateness: lists of different lengths, or too short a report */
+    /* 11 to 14 are not used yet */
+    GORGALHUT_TOO_MANY_PAIRS = 15 /* lateness: more than 4096 pairs */
 };
 
 /* A call's number, for the tally and in frames. */
@@ -129,7 +133,7 @@ bool gorgalhut_book_sound(const uint64_t *array, size_t array_words);
 
 /* Adds a call (gorgalhut_call) with its answer, its merge steps and whether it packed: an accepted insert counts in
  * *inserts, an accepted take in *takes; setup and refused calls add nothing. False, and nothing added, if call is
- * above 5, or answer is none of gorgalhut_answer's numbers. */
+ * above 5, or answer is not 0 to 7, 9 or 10. */
 bool gorgalhut_tally_add(uint64_t *inserts, uint64_t *takes, uint64_t *steps, uint64_t *packings, uint8_t call,
                          uint8_t answer, uint64_t call_steps, bool packed);
 
@@ -148,6 +152,31 @@ uint8_t gorgalhut_write_frame(uint8_t kind, uint64_t value, uint8_t *out, size_t
  * 0 and nothing written: steps of more than 32 bits (no call has so many) or too short a buffer. */
 uint8_t gorgalhut_answer_line(uint8_t answer, uint64_t word, uint64_t steps, uint8_t *out, size_t out_bytes,
                               size_t *written);
+
+/* ---- lateness: how punctual the doors were, in whole ticks */
+
+/* At most so many pairs a day. */
+#define GORGALHUT_MOST_PAIRS 4096
+
+/* A report has six numbers for each door: report[6 * door + GORGALHUT_MEDIAN] is the median of that door. */
+#define GORGALHUT_REPORT_NUMBERS 18
+enum gorgalhut_number {
+    GORGALHUT_COUNT = 0,    /* pairs of this door */
+    GORGALHUT_EARLIEST = 1, /* the smallest lateness */
+    GORGALHUT_LATEST = 2,   /* the largest */
+    GORGALHUT_SUM = 3,      /* of all; the mean is sum and count */
+    GORGALHUT_EXACT = 4,    /* pairs with a lateness of 0 */
+    GORGALHUT_MEDIAN = 5    /* the lower median: of n in order, number (n + 1) / 2 rounded down, counted from 1 */
+};
+
+/* Reports on pairs: pair i is due[i], the tick that an order was due at, acting[i], the tick that its door acted at, and
+ * doors[i]. Lateness is acting less due around the clock of 2^32 ticks, from -2147483648 to 2147483647: early is below
+ * 0, and exactly half the clock counts as early. A door without pairs has six zeros; "both" does not add to left and
+ * right. Answers 0; 10 if the three counts differ or report_numbers is below 18, and then nothing is written; 15 for
+ * more than 4096 pairs; 7 for a door above 2. On 15 and 7 all eighteen numbers are 0. Numbers behind the eighteenth, and
+ * the pairs, never change. No other memory is needed. */
+uint8_t gorgalhut_lateness(const uint32_t *due, size_t due_count, const uint32_t *acting, size_t acting_count,
+                           const uint8_t *doors, size_t door_count, int64_t *report, size_t report_numbers);
 
 #ifdef __cplusplus
 }

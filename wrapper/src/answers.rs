@@ -3,8 +3,9 @@
 use core::error::Error;
 use core::fmt::{self, Display, Formatter};
 
-/// Why nothing was done. A refusal changes nothing that was lent.
+/// Why nothing was done. A refusal changes nothing that was lent. Later versions may have more of them.
 #[derive(Clone, Copy, Debug, PartialEq, Eq, Hash)]
+#[non_exhaustive]
 pub enum Refusal {
     /// 1: links not 1 to 4.
     NoSuchLinks = 1,
@@ -18,18 +19,20 @@ pub enum Refusal {
     Full = 5,
     /// 6: no entry is held.
     NoneHeld = 6,
-    /// 7: the entry's door byte is above 2.
+    /// 7: the door byte of an entry or a pair is above 2.
     DoorAbove = 7,
     /// 9: the book is sound, but entries are out of order.
     OrderBroken = 9,
-    /// 10: not a frame, not an order that can be written, or too short a buffer.
+    /// 10: not a frame, not an order that can be written, or too short a buffer; lists of different lengths, which are no pairs.
     NotAFrame = 10,
+    /// 15: more than 4,096 pairs.
+    TooManyPairs = 15,
 }
 
 /// What a call comes to.
 pub type Result<T> = core::result::Result<T, Refusal>;
 
-const ALL: [Refusal; 9] = [
+const ALL: [Refusal; 10] = [
     Refusal::NoSuchLinks,
     Refusal::ArrayShort,
     Refusal::WorkShort,
@@ -39,6 +42,7 @@ const ALL: [Refusal; 9] = [
     Refusal::DoorAbove,
     Refusal::OrderBroken,
     Refusal::NotAFrame,
+    Refusal::TooManyPairs,
 ];
 
 impl Refusal {
@@ -80,7 +84,8 @@ impl Display for Refusal {
             Refusal::NoneHeld => "no entry is held",
             Refusal::DoorAbove => "the door is above 2",
             Refusal::OrderBroken => "entries are out of order",
-            Refusal::NotAFrame => "not a frame",
+            Refusal::NotAFrame => "not a frame, or no pairs",
+            Refusal::TooManyPairs => "more than 4,096 pairs",
         })
     }
 }

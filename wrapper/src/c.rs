@@ -74,4 +74,14 @@ extern "C" {
         out_bytes: usize,
         written: *mut usize,
     ) -> u8;
+    pub fn gorgalhut_lateness(
+        due: *const u32,
+        due_count: usize,
+        acting: *const u32,
+        acting_count: usize,
+        doors: *const u8,
+        door_count: usize,
+        report: *mut i64,
+        report_numbers: usize,
+    ) -> u8;
 }

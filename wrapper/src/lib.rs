@@ -1,7 +1,7 @@
 //! The proved queue of the start gate's box, over memory that the caller lends.
 //!
 //! [`Queue`] borrows an array and a work area, so neither can overlap the other or be used by anybody else while the
-//! queue stands. Every refusal is a [`Refusal`] with the number that the documents give it, and changes nothing.
+//! queue stands. [`Report`] tells how punctual the doors were. Every refusal is a [`Refusal`] with the number that the documents give it, and changes nothing.
 //! Nothing here needs `std` or an allocator.
 //!
 //! ```
@@ -26,11 +26,13 @@ mod answers;
 pub mod c;
 mod entries;
 mod frames;
+mod lateness;
 mod queue;
 mod tally;
 
 pub use answers::{Refusal, Result};
 pub use entries::{Command, Door, Entry};
 pub use frames::{answer_line, Order, ANSWER_LINE_BYTES, FRAME_BYTES};
+pub use lateness::{Lateness, Report, MOST_PAIRS};
 pub use queue::{book_sound, Found, Inserted, Links, Queue};
 pub use tally::Tally;

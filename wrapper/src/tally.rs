@@ -44,7 +44,7 @@ impl Tally {
 
     fn add(&mut self, call: u8, answer: u8, steps: u64, packed: bool) {
         // SAFETY: the four numbers are fields of one record that is borrowed.
-        let added = unsafe {
+        let known = unsafe {
             c::gorgalhut_tally_add(
                 &raw mut self.inserts,
                 &raw mut self.takes,
@@ -56,6 +56,6 @@ impl Tally {
                 packed,
             )
         };
-        debug_assert!(added, "call and answer are among the library's");
+        debug_assert!(known || answer != 0, "an accepted call is always added");
     }
 }
