@@ -10,6 +10,8 @@ use Rattle.rules.specs.Calls as rules
 use Rattle.buffers.specs.Format.{lentOf, buffersOf}
 use Rattle.gorgalhut.specs.Answered.{Answered, PutIn}
 use Rattle.gorgalhut.specs.Framed.{Lined}
+use lib.IntN.{ℤ}
+use Rattle.gorgalhut.specs.Timed.{timedAnswer, timedReport}
 
 -- the same number, word and steps, and the same link number, counters and entries of every buffer
 pub record Agree (ws₁ ws₂ : List ℕ) (number₁ number₂ word₁ word₂ steps₁ steps₂ : ℕ) : Type 0 where
@@ -49,3 +51,9 @@ put-agree entry ws ws₁ ws₂ work work₁ work₂ number₁ number₂ word₁ 
 pub lined-agree : (may : Bool) (line out out₁ out₂ : List ℕ) (number₁ number₂ written₁ written₂ : ℕ)
     → Lined may line out out₁ number₁ written₁ → Lined may line out out₂ number₂ written₂ → (number₁ ≡ number₂) × (written₁ ≡ written₂) × (out₁ ≡ out₂)
 lined-agree may line out out₁ out₂ number₁ number₂ written₁ written₂ one two = (one .number-is ∙ sym (two .number-is), one .written-is ∙ sym (two .written-is), one .after ∙ sym (two .after))
+
+-- a report: the same number, and the same list behind the call
+pub timed-agree : (due acting doors : List ℕ) (report report₁ report₂ : List ℤ) (number₁ number₂ : ℕ)
+    → (number₁ ≡ timedAnswer due acting doors report) × (report₁ ≡ timedReport due acting doors report) → (number₂ ≡ timedAnswer due acting doors report) × (report₂ ≡ timedReport due acting doors report)
+    → (number₁ ≡ number₂) × (report₁ ≡ report₂)
+timed-agree due acting doors report report₁ report₂ number₁ number₂ one two = (one .0 ∙ sym (two .0), one .1 ∙ sym (two .1))

@@ -116,6 +116,53 @@ pub late-in-clock : (n : ℕ) → n < turn → mag (lateAt n) < half
 unfolding lateAt
 late-in-clock n s = ⊎-elim (λ h. rw (less-early n half h) (omega arith)) (λ h. rw (less-late n half h) (omega arith)) (under-or-not n half)
 
+-- ---- the only number within half the clock that leads from the due tick to the acting one
+
+-- counted from the earliest, it is half the clock more than the distance, around the clock
+above-distance : (due acting : ℕ) → aboveOf (latenessOf due acting) ≡ (distance due acting + half) % turn
+unfolding aboveOf
+above-distance due acting = ⊎-elim late early (under-or-not (distance due acting) half)
+  where
+    late : distance due acting < half → aboveOf (latenessOf due acting) ≡ (distance due acting + half) % turn
+    late h = rw (forth due acting h) (omega arith)
+
+    early : half ≤ distance due acting → aboveOf (latenessOf due acting) ≡ (distance due acting + half) % turn
+    early h = let s = distance-short due acting in rw (back due acting h, less-early (distance due acting) turn s) (omega arith)
+
+distance-forth : (due acting : ℕ) → due ≤ acting → acting < turn → distance due acting ≡ acting - due
+unfolding distance
+distance-forth due acting h a = omega arith
+
+distance-around : (due acting : ℕ) → acting < due → due < turn → distance due acting ≡ acting + turn - due
+unfolding distance
+distance-around due acting h d = omega arith
+
+-- half the clock more, once around at most
+around : (n : ℕ) → n < turn → ((n + half) % turn ≡ n + half) ⊎ ((n + half) % turn + half ≡ n)
+around n h = ⊎-elim (λ l. inl (omega arith)) (λ g. inr (omega arith)) (under-or-not n half)
+
+pub leads : (due acting : ℕ) → due < turn → acting < turn → (due + aboveOf (latenessOf due acting)) % turn ≡ (acting + half) % turn
+leads due acting d a =
+    let above = above-distance due acting in
+    ⊎-elim
+    (λ h.
+    let n = distance-around due acting h d in
+    ⊎-elim (λ e. omega (arith, above, n, e)) (λ e. omega (arith, above, n, e)) (around (distance due acting) (distance-short due acting)))
+    (λ h.
+    let n = distance-forth due acting h a in
+    ⊎-elim (λ e. omega (arith, above, n, e)) (λ e. omega (arith, above, n, e)) (around (distance due acting) (distance-short due acting)))
+    (under-or-not acting due)
+
+-- two numbers below a turn that lead from one tick to one tick are the same
+same-lead : (due m n : ℕ) → m < turn → n < turn → (due + m) % turn ≡ (due + n) % turn → m ≡ n
+same-lead due m n h k e = omega arith
+
+pub only : (due acting : ℕ) (z : ℤ) → due < turn → acting < turn → mag z < half → (due + aboveOf z) % turn ≡ (acting + half) % turn → z ≡ latenessOf due acting
+only due acting z d a h e =
+    let l = latenessOf due acting in
+    let same = same-lead due (aboveOf z) (aboveOf l) (above-short z h) (above-short l (in-clock due acting)) (e ∙ sym (leads due acting d a)) in
+    sym (late-above z h) ∙ ap lateAt same ∙ late-above l (in-clock due acting)
+
 -- ---- sums
 
 mag-less : (a b : ℕ) → mag (subℕ a b) ≤ a + b

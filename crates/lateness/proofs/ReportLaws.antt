@@ -39,23 +39,23 @@ module _ (door : ℕ) {due acting doors : List ℕ} (lent : Lent due acting door
   pub row-none : seen .count ≡ 0 → {r : Row} → r ≡ rowOf [] → r ≡ rowOf (ofDoor door (pairsOf due acting doors))
   row-none z e = e ∙ ap rowOf (sym (none (ofDoor door (pairsOf due acting doors)) (sym (ap (λ s. s .count) told) ∙ z)))
 
-  pub middle-number : seen .count ≢ 0 → Numbered ((seen .count + 1) / 2) (toZ w64 (ofZ w64 (seen .earliest))) (toZ w64 (ofZ w64 (seen .latest))) (ofDoor door (pairsOf due acting doors))
-  middle-number n =
+  pub middle-number : (middle : ℕ) → seen .count ≢ 0 → middle ≡ (seen .count + 1) / 2 → Numbered middle (toZ w64 (ofZ w64 (seen .earliest))) (toZ w64 (ofZ w64 (seen .latest))) (ofDoor door (pairsOf due acting doors))
+  middle-number middle n e =
       let many = ap (λ s. s .count) told in
       let some : 1 ≤ seen .count = ⊎-elim (λ l. l) (λ g. absurd (n (omega arith))) (under-or-not 0 (seen .count)) in
       record {
-        low = omega (arith, some);
-        high = omega (arith, some, many);
+        low = omega (arith, e, some);
+        high = omega (arith, e, some, many);
         first = back (fits-half (few .first)) ∙ ap (λ s. s .earliest) told;
         last = back (fits-half (few .last)) ∙ ap (λ s. s .latest) told;
       }
 
-  pub row-is : (median : ℤ) → SFits w64 median → median ≡ numbered ((seen .count + 1) / 2) (ofDoor door (pairsOf due acting doors))
+  pub row-is : (middle : ℕ) (median : ℤ) → SFits w64 median → median ≡ numbered middle (ofDoor door (pairsOf due acting doors)) → middle ≡ (seen .count + 1) / 2
       → record { seen = seen; median = toZ w64 (ofZ w64 median) } ≡ rowOf (ofDoor door (pairsOf due acting doors))
-  row-is median f e =
-      let count = ap (λ s. s .count) told in
-      let middle = back f ∙ e ∙ ap (λ n. numbered ((n + 1) / 2) (ofDoor door (pairsOf due acting doors))) count in
-      λ i. record { seen = told i; median = middle i }
+  row-is middle median f e m =
+      let lower : middle ≡ (length (ofDoor door (pairsOf due acting doors)) + 1) / 2 = omega (arith, m, ap (λ s. s .count) told) in
+      let here = back f ∙ e ∙ ap (λ n. numbered n (ofDoor door (pairsOf due acting doors))) lower in
+      λ i. record { seen = told i; median = here i }
 
 -- ---- a report
 

@@ -151,11 +151,11 @@ fn at_most(due: &[u32], acting: &[u32], doors: &[u8], door: u8, most: i64) -> u6
     ensures { λ r. ⌜ r ≡ atMost most (ofDoor door (pairsOf (now (due .entry)) (now (acting .entry)) (now (doors .entry)))) ⌝ }
 {
     let mut count: u64 = 0;
-    let mut i = doors.len();
-    while 0 < i {
-        i -= 1;
-        if doors[i] == door {
-            if lateness(due[i], acting[i]) <= most {
+    let mut at = doors.len();
+    while 0 < at {
+        at -= 1;
+        if doors[at] == door {
+            if lateness(due[at], acting[at]) <= most {
                 count += 1;
             }
         }

@@ -27,7 +27,7 @@ report-of-requires c κs = search needs
 returns-2 : tie.Need-returns-2
 returns-2 c =
     let made = c .before .report-of .ensures in
-    (made-answer _ _ _ _ (omega arith) _ made, unequal-report _ _ _ _ (omega arith) _ made (c .if2 .taken))
+    (made-answer _ _ _ _ (omega arith) _ made, unequal-report _ _ _ _ (omega arith) _ made (omega arith))
 
 sub-lay-row : tie.Need-sub-lay-row
 sub-lay-row c = search needs
@@ -70,7 +70,7 @@ returns-3 c =
     let b = third d in
     let a = second b in
     let made = told a .report-of .ensures in
-    (made-answer _ _ _ _ (omega arith) _ made, made-report _ _ _ _ (omega arith) _ made (a .before .before .before .before .if2 .left) (all-laid (lent a .args .report .now) (omega arith) _ (b .before .before .lay-row .ensures) _ (d .before .before .lay-row2 .ensures) _ (c .before .lay-row3 .ensures)))
+    (made-answer _ _ _ _ (omega arith) _ made, made-report _ _ _ _ (omega arith) _ made (omega arith) (all-laid (lent a .args .report .now) (omega arith) _ (b .before .before .lay-row .ensures) _ (d .before .before .lay-row2 .ensures) _ (c .before .lay-row3 .ensures)))
 
 pub gorgalhut-lateness-spec : {M : Type 1} → statement M
 gorgalhut-lateness-spec =

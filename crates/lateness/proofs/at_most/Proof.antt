@@ -10,10 +10,10 @@ use Rattle.lateness.proofs.at_most.Statement.{statement}
 use Rattle.lateness.proofs.at_most.Tie as tie
 
 abbrev Inv-loop : tie.InvT-loop
-Inv-loop due acting doors door most count₀ i₀ count i = Passed (atMost (toZ w64 most)) door due acting doors i count
+Inv-loop due acting doors door most count₀ at₀ count at = Passed (atMost (toZ w64 most)) door due acting doors at count
 
 abbrev μ-loop : tie.MeasureT-loop
-μ-loop due acting doors door most count₀ i₀ count i = i
+μ-loop due acting doors door most count₀ at₀ count at = at
 
 abbrev start : tie.At-loop Inv-loop μ-loop → tie.Start Inv-loop μ-loop
 start c = c .before .before .before .before
@@ -25,8 +25,8 @@ loop-holds : tie.Need-loop-holds Inv-loop μ-loop
 unfolding atMost
 loop-holds c = passed-none (atMost _) (c .before .before .before .pre) refl refl
 
-sub-i : tie.Need-sub-i Inv-loop μ-loop
-sub-i c = omega arith
+sub-at : tie.Need-sub-at Inv-loop μ-loop
+sub-at c = omega arith
 
 shared-slice-read-if1 : tie.Need-shared-slice-read-if1 Inv-loop μ-loop
 shared-slice-read-if1 c = omega (arith, c .before .before .loop .inv .inside)
@@ -58,7 +58,7 @@ loop-again : tie.Need-loop-again Inv-loop μ-loop
 loop-again c =
     let r = c .before in
     let l = turn-of r .before in
-    passed-yes (atMost _) (start l .pre) (l .loop .inv) (omega arith) refl (r .before .before .before .if1 .taken)
+    passed-yes (atMost _) (start l .pre) (l .loop .inv) (omega arith) refl (omega arith)
     (counted _ (small (r .lateness .ok)) _ _ _ (r .lateness .ensures) (l .loop .inv .told) (c .if2 .taken))
 
 loop-less-2 : tie.Need-loop-less-2 Inv-loop μ-loop
@@ -68,14 +68,14 @@ loop-again-2 : tie.Need-loop-again-2 Inv-loop μ-loop
 loop-again-2 c =
     let r = c .before in
     let l = turn-of r .before in
-    passed-yes (atMost _) (start l .pre) (l .loop .inv) (omega arith) refl (r .before .before .before .if1 .taken)
+    passed-yes (atMost _) (start l .pre) (l .loop .inv) (omega arith) refl (omega arith)
     (passed-over _ (small (r .lateness .ok)) _ _ _ (r .lateness .ensures) (l .loop .inv .told) (c .if2 .left))
 
 loop-less-3 : tie.Need-loop-less-3 Inv-loop μ-loop
 loop-less-3 c = omega arith
 
 loop-again-3 : tie.Need-loop-again-3 Inv-loop μ-loop
-loop-again-3 c = let l = c .before .before .before in passed-no (atMost _) (start l .pre) (l .loop .inv) (omega arith) refl (c .if1 .left)
+loop-again-3 c = let l = c .before .before .before in passed-no (atMost _) (start l .pre) (l .loop .inv) (omega arith) refl (omega arith)
 
 returns : tie.Need-returns Inv-loop μ-loop
 returns c = let l = c .before in at-most-read _ (start l .fits .most) (passed-all (atMost _) (start l .pre) (l .loop .inv) (omega arith))
@@ -87,7 +87,7 @@ at-most-spec =
     Inv-loop
     μ-loop
     loop-holds
-    sub-i
+    sub-at
     shared-slice-read-if1
     mul-lateness
     shared-slice-read-lateness

@@ -1,5 +1,4 @@
 use native.Mathlib.Omega.{arith}
-use mathlib.Core.Path.{_≡_, sym, _∙_}
 use borrow.Author.Needs.{needs}
 use Rattle.lateness.proofs.ReportLaws.{done-lent, report-refused, report-done}
 use Rattle.lateness.proofs.report_of.Statement.{statement}
@@ -20,21 +19,21 @@ zeros-requires-3 c κs = search needs
 returns : tie.Need-returns
 returns c =
     let t = c .before .before .before in
-    report-refused _ _ _ _ (t .before .checked .ensures) _ _ _ (t .if1 .taken) (c .before .before .zeros .ensures) (c .before .zeros2 .ensures) (c .zeros3 .ensures)
+    report-refused _ _ _ _ (t .before .checked .ensures) _ _ _ (omega arith) (c .before .before .zeros .ensures) (c .before .zeros2 .ensures) (c .zeros3 .ensures)
 
 row-of-requires : tie.Need-row-of-requires
-row-of-requires c κs = done-lent _ _ _ (sym (c .before .checked .ensures) ∙ c .if1 .left)
+row-of-requires c κs = done-lent _ _ _ (omega (arith, c .before .checked .ensures))
 
 row-of-requires-2 : tie.Need-row-of-requires-2
-row-of-requires-2 c κs = let t = c .before in done-lent _ _ _ (sym (t .before .checked .ensures) ∙ t .if1 .left)
+row-of-requires-2 c κs = done-lent _ _ _ (omega (arith, c .before .before .checked .ensures))
 
 row-of-requires-3 : tie.Need-row-of-requires-3
-row-of-requires-3 c κs = let t = c .before .before in done-lent _ _ _ (sym (t .before .checked .ensures) ∙ t .if1 .left)
+row-of-requires-3 c κs = done-lent _ _ _ (omega (arith, c .before .before .before .checked .ensures))
 
 returns-2 : tie.Need-returns-2
 returns-2 c =
     let t = c .before .before .before in
-    report-done _ _ _ _ (t .before .checked .ensures) _ _ _ (t .if1 .left) (c .before .before .row-of .ensures) (c .before .row-of2 .ensures) (c .row-of3 .ensures)
+    report-done _ _ _ _ (t .before .checked .ensures) _ _ _ (omega arith) (c .before .before .row-of .ensures) (c .before .row-of2 .ensures) (c .row-of3 .ensures)
 
 pub report-of-spec : {M : Type 1} → statement M
 report-of-spec =

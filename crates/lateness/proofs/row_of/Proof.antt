@@ -24,10 +24,10 @@ add-middle : tie.Need-add-middle
 add-middle c = let s = pass c in record { fits = omega (arith, count-few _ (start s .pre) _ (s .seen-of .ensures)) }
 
 number-in-order-requires : tie.Need-number-in-order-requires
-number-in-order-requires c κs = let s = pass c in (start s .pre, middle-number _ (start s .pre) _ (s .seen-of .ensures) (c .before .before .if1 .left))
+number-in-order-requires c κs = let s = pass c in (start s .pre, middle-number _ (start s .pre) _ (s .seen-of .ensures) _ (omega arith) (omega arith))
 
 returns-2 : tie.Need-returns-2
-returns-2 c = let s = pass (c .before) in row-is _ (start s .pre) _ (s .seen-of .ensures) _ (small (c .number-in-order .ok)) (c .number-in-order .ensures)
+returns-2 c = let s = pass (c .before) in row-is _ (start s .pre) _ (s .seen-of .ensures) _ _ (small (c .number-in-order .ok)) (c .number-in-order .ensures) (omega arith)
 
 pub row-of-spec : {M : Type 1} → statement M
 row-of-spec = tie.close (tie.spec seen-of-requires zeros-requires returns add-middle number-in-order-requires returns-2)

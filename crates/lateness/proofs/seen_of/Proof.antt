@@ -57,14 +57,14 @@ loop-again : tie.Need-loop-again Inv-loop μ-loop
 loop-again c =
     let r = c .before in
     let l = turn-of r .before in
-    passed-yes seenOf (start l .pre) (l .loop .inv) (omega arith) refl (r .before .before .before .if1 .taken)
+    passed-yes seenOf (start l .pre) (l .loop .inv) (omega arith) refl (omega arith)
     (seen-read _ (small (r .lateness .ok)) (r .lateness .ensures) (c .with .ensures _ (l .loop .inv .told)))
 
 loop-less-2 : tie.Need-loop-less-2 Inv-loop μ-loop
 loop-less-2 c = omega arith
 
 loop-again-2 : tie.Need-loop-again-2 Inv-loop μ-loop
-loop-again-2 c = let l = c .before .before .before in passed-no seenOf (start l .pre) (l .loop .inv) (omega arith) refl (c .if1 .left)
+loop-again-2 c = let l = c .before .before .before in passed-no seenOf (start l .pre) (l .loop .inv) (omega arith) refl (omega arith)
 
 returns : tie.Need-returns Inv-loop μ-loop
 returns c = let l = c .before in passed-all seenOf (start l .pre) (l .loop .inv) (omega arith)
