@@ -46,6 +46,16 @@ use Rattle.demands.specs.Library as library
 use Rattle.gorgalhut.specs.Framed.{FrameRead, FrameWritten}
 use Rattle.gorgalhut.specs.Numbered as numbered
 use Rattle.gorgalhut.proofs.NumberedLaws.{means-nothing}
+use lib.IntN.{ℤ}
+use lib.Signed.{leZ}
+use native.Mathlib.Omega.{arith}
+use Rattle.lateness.specs.Ordered.{atMost}
+use Rattle.lateness.specs.Reports.{rowOf}
+use Rattle.lateness.proofs.NumberLaws.{least-such}
+use Rattle.gorgalhut.specs.Timed.{timedAnswer, timedReport}
+use Rattle.gorgalhut.proofs.AgreeLaws.{timed-agree}
+use Rattle.demands.specs.Punctual.{Timed}
+use Rattle.demands.proofs.PunctualLaws.{row-told, told-row}
 use Rattle.demands.specs.Existence.{Exists}
 use Rattle.demands.proofs.HistoryLaws.{stands}
 use Rattle.demands.proofs.SmallestLaws as smallest
@@ -326,3 +336,18 @@ library-frame-read-again = library-read-back
 pub library-frame-written-again : (line out out′ : List ℕ) (kind value number n : ℕ) → FrameRead line 0 kind value → length line ≤ length out → FrameWritten kind value out out′ number n
     → (number ≡ 0) × (n ≡ length line) × (out′ ≡ line ++ drop (length line) out)
 library-frame-written-again = library-write-back
+
+-- ---- document 02, R-6: early and late, in whole ticks
+
+-- "Refusals: 15 for more pairs, 7 for a door above 2, 15 first.": each answer is given exactly when its row says so, with the list that its row says, for any lists
+pub each-report-exactly : (due acting doors : List ℕ) (report after : List ℤ) (n : ℕ) → (n ≡ timedAnswer due acting doors report) × (after ≡ timedReport due acting doors report) → Timed due acting doors report n after
+each-report-exactly due acting doors report after n told = told-row due acting doors report told
+
+pub reports-agree : (due acting doors : List ℕ) (report one two : List ℤ) (n m : ℕ) → Timed due acting doors report n one → Timed due acting doors report m two → (n ≡ m) × (one ≡ two)
+reports-agree due acting doors report one two n m first second =
+    timed-agree due acting doors report one two n m (row-told due acting doors report first) (row-told due acting doors report second)
+
+-- "the lower median": the least lateness that half of the pairs, rounded up, do not exceed
+pub median-least : (xs : List ℤ) → 1 ≤ length xs
+    → ((length xs + 1) / 2 ≤ atMost (rowOf xs .median) xs) × ((v : ℤ) → leZ (rowOf xs .median) v ≡ false → atMost v xs < (length xs + 1) / 2)
+median-least xs some = least-such xs ((length xs + 1) / 2) (omega arith) (omega arith)

@@ -17,4 +17,5 @@ pub mod LibraryLaws
 pub mod LibraryFrameLaws
 pub mod ToldLaws
 pub mod SeenLaws
+pub mod PunctualLaws
 pub mod Demands

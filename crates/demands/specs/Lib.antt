@@ -6,3 +6,4 @@ pub mod Asked
 pub mod Told
 pub mod Library
 pub mod Existence
+pub mod Punctual

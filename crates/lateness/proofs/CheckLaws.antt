@@ -1,6 +1,6 @@
 -- The first door byte above 2, and the answer that lists of pairs get.
 use mathlib.Core.Path.{_≡_, refl, sym, ap, _∙_, subst}
-use mathlib.Core.Logic.{_≢_}
+use mathlib.Core.Logic.{_≢_, ⊎-elim}
 use mathlib.Core.Bool.{Bool, true, false, cond, _&&_}
 use mathlib.Core.List.{List, [], _∷_}
 use Prim.Native.Nat.{ℕ, zero, suc, _+_, _≤_, _<_}
@@ -11,6 +11,7 @@ use lib.Seq.{drop-cons, drop-length}
 use Rattle.rules.proofs.Sizes.{by-eqb, leb-false}
 use Rattle.rules.proofs.Capacity.{leb-true}
 use Rattle.lateness.specs.Reports.{firstAbove, answerOf}
+use Rattle.lateness.proofs.ClockLaws.{under-or-not}
 
 -- ---- looked through up to a place
 
@@ -85,3 +86,31 @@ module _ (due acting doors : List ℕ) where
 
       pub accepted : length doors ≤ 4096 → length doors ≤ firstAbove doors → 0 ≡ answerOf due acting doors
       accepted f h = sym (equal ∙ rw (leb-false 4097 (length doors) (omega arith), leb-false (suc (firstAbove doors)) (length doors) (omega arith)) refl)
+
+-- ---- a door byte above 2, wherever it stands
+
+pub above-there : (doors : List ℕ) → firstAbove doors < length doors → 2 < getD doors (firstAbove doors) 0
+above-there [] h = absurd (omega arith)
+above-there (b ∷ doors) h = ⊎-elim
+    (λ l. subst (λ n. 2 < getD (b ∷ doors) n 0) (sym (first-here b doors l)) l)
+    (λ g.
+    let later = first-later b doors g in
+    subst (λ n. 2 < getD (b ∷ doors) n 0) (sym later) (above-there doors (omega (arith, later))))
+    (under-or-not 2 b)
+
+pub none-above : (doors : List ℕ) → length doors ≤ firstAbove doors → (i : ℕ) → i < length doors → getD doors i 0 ≤ 2
+none-above [] h i l = absurd (omega arith)
+none-above (b ∷ doors) h i l = ⊎-elim
+    (λ a. absurd (omega (arith, first-here b doors a)))
+    (λ g. each i g (none-above doors (omega (arith, first-later b doors g))) l)
+    (under-or-not 2 b)
+  where
+    each : (i : ℕ) → b ≤ 2 → ((i : ℕ) → i < length doors → getD doors i 0 ≤ 2) → i < suc (length doors) → getD (b ∷ doors) i 0 ≤ 2
+    each zero g f l = g
+    each (suc i) g f l = f i (omega arith)
+
+pub some-above : (doors : List ℕ) (i : ℕ) → i < length doors → 2 < getD doors i 0 → firstAbove doors < length doors
+some-above doors i l a = ⊎-elim (λ h. h) (λ h. absurd (omega (arith, none-above doors h i l))) (under-or-not (firstAbove doors) (length doors))
+
+pub all-below : (doors : List ℕ) → ((i : ℕ) → i < length doors → getD doors i 0 ≤ 2) → length doors ≤ firstAbove doors
+all-below doors f = ⊎-elim (λ h. absurd (omega (arith, above-there doors h, f (firstAbove doors) h))) (λ h. h) (under-or-not (firstAbove doors) (length doors))

@@ -145,3 +145,9 @@ at-most-all v [] = omega arith
 at-most-all v (x ∷ xs) = by-test (leZ x v)
     (λ e. omega (arith, step-yes v x xs e, at-most-all v xs))
     (λ e. omega (arith, step-no v x xs e, at-most-all v xs))
+
+-- the one with number k is the least that k of them do not exceed
+pub least-such : (xs : List ℤ) (k : ℕ) → 1 ≤ k → k ≤ length xs → (k ≤ atMost (numbered k xs) xs) × ((v : ℤ) → leZ (numbered k xs) v ≡ false → atMost v xs < k)
+least-such xs k l h =
+    let x = numbered k xs in
+    (le-of k (atMost x xs) (sym (number-at x xs k l h) ∙ refl-le x), λ v below. lt-of k (atMost v xs) (sym (number-at v xs k l h) ∙ below))
