@@ -1,19 +1,18 @@
 -- Each answer of a report is given exactly when its row says so, and its row says what the lent list becomes.
-use mathlib.Core.Path.{_≡_, refl, sym, ap, _∙_, subst}
-use mathlib.Core.Logic.{_≢_, _⊎_, inl, inr, ⊎-elim}
-use mathlib.Core.List.{List, [], _∷_, _++_}
-use Prim.Native.Nat.{ℕ, _≤_, _<_}
+use mathlib.Core.Path.{_≡_, refl, sym, ap, subst}
+use mathlib.Core.Logic.{_⊎_, inl, inr, ⊎-elim}
+use mathlib.Core.List.{List, _++_}
+use Prim.Native.Nat.{ℕ, _≤_}
 use native.Mathlib.Omega.{arith}
-use lib.ListN.{length, getD, drop}
+use lib.ListN.{length, drop}
 use lib.IntN.{ℤ}
 use Rattle.rules.proofs.Sizes.{by-eqb}
 use Rattle.lateness.specs.Ordered.{inOrder, numbered}
 use Rattle.lateness.specs.Pairs.{Lent, pairsOf}
 use Rattle.lateness.specs.Reports.{sumOf, hits, firstAbove, answerOf, reportFrom, reportOf}
-use Rattle.lateness.specs.declared.Report.{Report}
 use Rattle.lateness.proofs.ClockLaws.{under-or-not}
 use Rattle.lateness.proofs.CheckLaws.{other-dues, other-actings, too-many, door-above, accepted, above-there, none-above, some-above, all-below}
-use Rattle.gorgalhut.specs.Timed.{numbersOf, timedAnswer, timedReport}
+use Rattle.gorgalhut.specs.Timed.{timedAnswer, timedReport}
 use Rattle.gorgalhut.proofs.TimedLaws.{short-answer, short-report, made-answer, unequal-report, made-report}
 use Rattle.demands.specs.Punctual as punctual
 use Rattle.demands.specs.Punctual.{zeros, Timed}

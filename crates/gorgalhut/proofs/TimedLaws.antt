@@ -1,21 +1,19 @@
 -- The numbers of a report, laid into a lent list from the last row to the first.
 use mathlib.Core.Path.{_≡_, refl, sym, ap, _∙_, subst}
 use mathlib.Core.Logic.{_≢_}
-use mathlib.Core.Bool.{true, false, cond}
+use mathlib.Core.Bool.{cond}
 use mathlib.Core.List.{List, [], _∷_, _++_, append-nil}
-use Prim.Native.Nat.{ℕ, zero, suc, _+_, _-_, _^_, _≤_, _<_}
+use Prim.Native.Nat.{ℕ, zero, suc, _+_, _-_, _≤_, _<_}
 use native.Mathlib.Omega.{arith}
-use lib.Dec.{eqb, ltb}
 use lib.ListN.{length, take, drop, set, length-append, length-drop, drop-of-length-le}
 use lib.Seq.{length-take-le, take-all, drop-at, drop-drop}
 use lib.IntN.{ℤ, pos}
-use lib.Signed.{mag}
 use mir.Syntax.{w64}
-use mir.Val.{SFits, toZ, ofZ}
-use borrow.Rule.Slice.PartMut.{midOf, putMid}
+use mir.Val.{toZ, ofZ}
+use borrow.Rule.Slice.PartMut.{putMid}
 use Rattle.rules.proofs.Sizes.{by-eqb, leb-false}
 use Rattle.rules.proofs.Capacity.{leb-true}
-use Rattle.lateness.specs.Reports.{Few, Small, answerOf, reportFrom, reportOf}
+use Rattle.lateness.specs.Reports.{Small, answerOf, reportFrom, reportOf}
 use Rattle.lateness.specs.Pairs.{pairsOf}
 use Rattle.lateness.specs.declared.Row.{Row}
 use Rattle.lateness.specs.declared.Report.{Report}

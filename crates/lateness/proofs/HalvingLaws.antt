@@ -1,14 +1,12 @@
 -- The one with a number in order, between two others that come nearer to each other.
-use mathlib.Core.Path.{_≡_, refl, sym, ap, _∙_, subst}
-use mathlib.Core.Bool.{Bool, true, false}
-use mathlib.Core.List.{List, [], _∷_}
-use Prim.Native.Nat.{ℕ, suc, _+_, _/_, _≤_, _<_}
-use native.Mathlib.Nat.{le-antisymm}
+use mathlib.Core.Path.{_≡_, sym, ap, _∙_}
+use mathlib.Core.List.{List}
+use Prim.Native.Nat.{ℕ, _+_, _≤_, _<_}
 use native.Mathlib.Omega.{arith}
 use lib.Dec.{leb}
 use lib.ListN.{length}
 use lib.IntN.{ℤ}
-use lib.Signed.{leZ, mag}
+use lib.Signed.{mag}
 use mir.Syntax.{w64}
 use mir.Val.{SFits, toZ, ofZ}
 use Rattle.rules.proofs.Sizes.{leb-false}

@@ -1,17 +1,17 @@
 -- A number in order is at most v exactly if so many do not exceed v.
 use mathlib.Core.Path.{_≡_, refl, sym, ap, _∙_, subst}
-use mathlib.Core.Bool.{Bool, true, false, cond}
+use mathlib.Core.Bool.{true, false, cond}
 use mathlib.Core.List.{List, [], _∷_}
-use Prim.Native.Nat.{ℕ, zero, suc, _+_, _-_, _≤_, _<_}
+use Prim.Native.Nat.{ℕ, zero, suc, _-_, _≤_, _<_}
 use native.Mathlib.Omega.{arith}
-use lib.Dec.{leb, ltb, leb·suc-suc, leb·suc-zero, leb·zero}
+use lib.Dec.{leb, ltb, leb·suc-suc}
 use lib.ListN.{length, getD}
 use lib.IntN.{ℤ, pos}
 use lib.Signed.{leZ}
 use Rattle.rules.proofs.Sizes.{leb-false}
 use Rattle.rules.proofs.Capacity.{leb-true}
 use Rattle.lateness.specs.Ordered.{putIn, inOrder, numbered, atMost}
-use Rattle.lateness.proofs.OrderLaws.{le-of, lt-of, clash, by-test, refl-le, other-way, le-through, same-above}
+use Rattle.lateness.proofs.OrderLaws.{le-of, lt-of, clash, by-test, refl-le, other-way, le-through}
 
 -- ---- one more
 

@@ -1,13 +1,12 @@
 -- The order of signed numbers.
 use mathlib.Core.Path.{_≡_, refl, sym, ap, _∙_, subst}
 use mathlib.Core.Bool.{Bool, true, false}
-use Prim.Native.Nat.{ℕ, suc, _≤_, _<_}
+use Prim.Native.Nat.{ℕ, _≤_, _<_}
 use native.Mathlib.Nat.{le-antisymm}
 use native.Mathlib.Omega.{arith}
 use lib.Dec.{T, leb, leb→le, nleb→lt}
 use lib.IntN.{ℤ, pos, negsuc}
 use lib.Signed.{leZ}
-use Rattle.rules.proofs.Sizes.{leb-false}
 use Rattle.rules.proofs.Capacity.{leb-true}
 
 pub le-of : (a b : ℕ) → leb a b ≡ true → a ≤ b

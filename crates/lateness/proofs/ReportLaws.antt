@@ -1,23 +1,21 @@
 -- A row from what one pass tells and the median, and a report from its rows.
-use mathlib.Core.Path.{_≡_, refl, sym, ap, _∙_, subst}
+use mathlib.Core.Path.{_≡_, refl, sym, ap, _∙_}
 use mathlib.Core.Logic.{_≢_, ⊎-elim}
-use mathlib.Core.List.{List, [], _∷_}
-use Prim.Native.Nat.{ℕ, zero, suc, _+_, _/_, _≤_, _<_}
+use mathlib.Core.List.{List, []}
+use Prim.Native.Nat.{ℕ, zero, suc, _+_, _/_, _≤_}
 use native.Mathlib.Omega.{arith}
 use lib.ListN.{length}
 use lib.IntN.{ℤ, pos}
-use lib.Signed.{mag}
 use mir.Syntax.{w64}
 use mir.Val.{SFits, toZ, ofZ}
 use Rattle.rules.proofs.Sizes.{by-eqb}
 use Rattle.lateness.specs.Ordered.{inOrder, numbered, Numbered}
 use Rattle.lateness.specs.Pairs.{pairsOf, ofDoor, Lent}
-use Rattle.lateness.specs.Clock.{half}
-use Rattle.lateness.specs.Reports.{sumOf, hits, seenOf, Few, Small, rowOf, firstAbove, answerOf, reportFrom, reportOf}
+use Rattle.lateness.specs.Reports.{sumOf, hits, seenOf, Few, Small, rowOf, answerOf, reportFrom, reportOf}
 use Rattle.lateness.specs.declared.Seen.{Seen}
 use Rattle.lateness.specs.declared.Row.{Row}
 use Rattle.lateness.specs.declared.Report.{Report}
-use Rattle.lateness.proofs.ClockLaws.{small, under-or-not}
+use Rattle.lateness.proofs.ClockLaws.{under-or-not}
 use Rattle.lateness.proofs.PairLaws.{door-within, number-within}
 use Rattle.lateness.proofs.SignedLaws.{back, fits-half}
 use Rattle.lateness.proofs.RowLaws.{none, seen-few}

@@ -1,9 +1,9 @@
 -- One pair more, and what it changes in a row.
 use mathlib.Core.Path.{_≡_, refl, sym, ap, _∙_, subst}
 use mathlib.Core.Logic.{_≢_, ⊎-elim}
-use mathlib.Core.Bool.{Bool, true, false, cond}
+use mathlib.Core.Bool.{cond}
 use mathlib.Core.List.{List, [], _∷_}
-use Prim.Native.Nat.{ℕ, zero, suc, _+_, _-_, _*_, _/_, _≤_, _<_}
+use Prim.Native.Nat.{ℕ, zero, suc, _+_, _-_, _≤_, _<_}
 use native.Mathlib.Omega.{arith}
 use lib.Dec.{leb, leb·suc-suc}
 use lib.ListN.{length, drop}
@@ -14,10 +14,10 @@ use Rattle.rules.proofs.Capacity.{leb-true}
 use Rattle.lateness.specs.Ordered.{putIn, inOrder, numbered, atMost}
 use Rattle.lateness.specs.Clock.{half}
 use Rattle.lateness.specs.Pairs.{Lent, pairsOf}
-use Rattle.lateness.specs.Reports.{sumOf, hits, seenOf, rowOf, Few}
+use Rattle.lateness.specs.Reports.{sumOf, hits, seenOf, Few}
 use Rattle.lateness.specs.declared.Seen.{Seen}
 use Rattle.lateness.proofs.ClockLaws.{under-or-not}
-use Rattle.lateness.proofs.OrderLaws.{le-of, lt-of, clash, by-test, other-way, le-through, same-above}
+use Rattle.lateness.proofs.OrderLaws.{clash, by-test, other-way, le-through, same-above}
 use Rattle.lateness.proofs.PairLaws.{from, from-few, door-within, sum-small, hits-few, number-within, Passed}
 use Rattle.lateness.proofs.NumberLaws.{step-yes, step-no, number-at, at-most-all}
 

@@ -1,8 +1,7 @@
 -- Lateness and reports, computed.
 use mathlib.Core.Path.{_≡_, refl}
-use mathlib.Core.List.{List, [], _∷_}
-use Prim.Native.Nat.{ℕ}
-use lib.IntN.{ℤ, pos, negsuc}
+use mathlib.Core.List.{[], _∷_}
+use lib.IntN.{pos, negsuc}
 use Rattle.lateness.specs.Clock.{distance, latenessOf}
 use Rattle.lateness.specs.Ordered.{putIn, inOrder, numbered}
 use Rattle.lateness.specs.Pairs.{pairsOf, ofDoor}

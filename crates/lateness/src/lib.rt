@@ -3,7 +3,6 @@ ghost use mathlib.Core.Path.{_≡_};
 ghost use mathlib.Core.Bool.{cond};
 ghost use mathlib.Core.List.{List, [], _∷_};
 ghost use Prim.Native.Nat.{_<_};
-ghost use lib.ListN.{length};
 ghost use lib.IntN.{ℤ};
 ghost use lib.Signed.{leZ, mag};
 ghost use Rattle.lateness.specs.Clock.{turn, half, latenessOf, aboveOf, lateAt};

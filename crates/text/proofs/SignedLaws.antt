@@ -1,7 +1,7 @@
 -- Numbers with a sign: what code computes of them, and what is laid.
 use mathlib.Core.Path.{_≡_, refl, sym, ap, _∙_, subst}
-use mathlib.Core.Bool.{true, false, cond}
-use mathlib.Core.List.{List, [], _∷_, _++_}
+use mathlib.Core.Bool.{true, false}
+use mathlib.Core.List.{List, [], _∷_}
 use Prim.Native.Nat.{ℕ, zero, suc, _+_, _-_, _^_, _≤_, _<_}
 use native.Mathlib.Omega.{arith}
 use lib.Dec.{T, leb·suc-suc, leb·suc-zero}
@@ -11,7 +11,7 @@ use lib.Signed.{mag, ltZ, nonNeg}
 use mir.Syntax.{w64}
 use mir.Val.{SFits, Fits, toZ, ofZ}
 use mir.ValLaws.{toZ-ofZ}
-use Rattle.text.specs.Decimal.{places, digits, decimal, signed}
+use Rattle.text.specs.Decimal.{decimal, signed}
 use Rattle.text.specs.Laid.{Laid}
 use Rattle.text.proofs.DecimalLaws.{decimal-short}
 use Rattle.text.proofs.LaidLaws.{laid-behind}

@@ -1,8 +1,4 @@
-use mathlib.Core.Path.{_≡_, ap}
-use mathlib.Core.List.{[]}
 use borrow.Author.Needs.{needs}
-use Rattle.lateness.specs.Ordered.{inOrder, numbered}
-use Rattle.lateness.specs.declared.Row.{Row}
 use Rattle.lateness.proofs.ReportLaws.{no-pairs}
 use Rattle.lateness.proofs.zeros.Statement.{statement}
 use Rattle.lateness.proofs.zeros.Tie as tie
