@@ -51,9 +51,9 @@ none : reportOf [] [] [] ≡ record { answer = 0; both = rowOf []; left = rowOf 
 unfolding answerOf firstAbove pairsOf ofDoor
 none = refl
 
-zeros : rowOf [] ≡ record { seen = record { count = 0; earliest = pos 0; latest = pos 0; sum = pos 0; exact = 0 }; median = pos 0 }
+allZeros : rowOf [] ≡ record { seen = record { count = 0; earliest = pos 0; latest = pos 0; sum = pos 0; exact = 0 }; median = pos 0 }
 unfolding numbered inOrder sumOf hits
-zeros = refl
+allZeros = refl
 
 unequal : answerOf (1 ∷ []) [] (0 ∷ []) ≡ 10
 unfolding answerOf

@@ -1,0 +1,3 @@
+pub mod LineLaws
+pub mod SaidLaws
+pub mod RunLaws
