@@ -1,5 +1,5 @@
 -- Labels and numbers that are laid one behind another are a line.
-use Prim.Native.Nat.{ℕ, _+_, _*_, _≤_, _<_}
+use Prim.Native.Nat.{ℕ, _*_, _≤_, _<_}
 use Prim.Native.String.{String}
 use mathlib.Core.Path.{_≡_, subst}
 use mathlib.Core.List.{List, _++_}
@@ -36,12 +36,12 @@ pub signed-behind : {label before middle after : List ℕ} {z : ℤ} {at end₁ 
 signed-behind {middle = middle} {after = after} {z = z} {end₁ = end₁} {end₂ = end₂} f inside x y =
     laid-behind inside x (subst (λ (n : ℤ). Laid (signed n) end₁ middle after end₂) (toZ-ofZ w64 z f) y)
 
--- a number so small is read as it stands
-pub as-it-stands : {z : ℤ} → mag z ≤ 4096 * half → toZ w64 (ofZ w64 z) ≡ z
-as-it-stands {z} h = toZ-ofZ w64 z (record { sfits = omega arith })
+-- a sum and a lateness are so small that they are read as they stand
+pub sum-as-read : {z : ℤ} → mag z ≤ 4096 * half → toZ w64 (ofZ w64 z) ≡ z
+sum-as-read {z} h = toZ-ofZ w64 z (record { sfits = omega arith })
 
-pub as-read : {z : ℤ} → mag z < half → toZ w64 (ofZ w64 z) ≡ z
-as-read {z} h = toZ-ofZ w64 z (record { sfits = omega arith })
+pub late-as-read : {z : ℤ} → mag z < half → toZ w64 (ofZ w64 z) ≡ z
+late-as-read {z} h = toZ-ofZ w64 z (record { sfits = omega arith })
 
 -- ---- one behind another
 

@@ -4,15 +4,19 @@ use mathlib.Core.Path.{_≡_, sym, ap, _∙_}
 use mathlib.Core.Bool.{Bool}
 use mathlib.Core.List.{List, [], flatten}
 use lib.ListN.{take}
-use Rattle.pairs.specs.Reads.{readsOf}
-use Rattle.pairs.specs.State.{State}
+use Rattle.pairs.specs.Reads.{readsOf, lastReads}
+use Rattle.pairs.specs.State.{State, linesAfter}
 use Rattle.pairs.specs.Kept.{Kept}
-use Rattle.pairs.specs.Calls.{Fed}
-use Rattle.pairs.proofs.CallLaws.{fed-kept}
+use Rattle.pairs.specs.Calls.{HeardSoFar, Fed}
+use Rattle.pairs.proofs.CallLaws.{so-ends, fed-kept}
 use Rattle.text.specs.Laid.{Laid}
 use Rattle.text.proofs.LaidLaws.{laid-reads}
 use Rattle.late.specs.Says.{Says, says, stateSaid}
 use Rattle.late.proofs.SaidLaws.{kept-said}
+
+-- the last line is read, behind bytes that were heard in any pieces
+pub so-said : {begun s s′ : State} {bytes k : List ℕ} → Kept [] begun → HeardSoFar begun bytes s k → s′ ≡ linesAfter s (lastReads k) → stateSaid s′ ≡ says (readsOf bytes)
+so-said begun so e = kept-said (so-ends so begun e)
 
 module _ {s s′ : State} {pieces : List (List ℕ)} (begun : Kept [] s) (fed : Fed s [] pieces s′) where
   pub fed-said : stateSaid s′ ≡ says (readsOf (flatten pieces))

@@ -11,6 +11,7 @@ use Rattle.pairs.specs.Kept.{wrongFrom, wrongAt, firstWrong, firstPairs}
 use Rattle.pairs.specs.State.{State}
 use Rattle.late.specs.Lines.{reportLines, tooManyLines, noPair, doorAbove}
 
+-- a refusal is one line on standard error, and then standard output has nothing; a report is all of standard output
 pub record Says : Type 0 where
   pub refused : Bool
   pub text : List ℕ
@@ -21,7 +22,7 @@ refusal text = record { refused = true; text = text }
 abbrev pub report : List ℕ → Says
 report text = record { refused = false; text = text }
 
--- the pairs of lines that were read
+-- the pairs that were read, joined
 unfoldable pub pairsRead : List (Back Pair) → List Pair
 pairsRead [] = []
 pairsRead (read ∷ reads) = read .values ++ pairsRead reads
@@ -46,7 +47,8 @@ unfoldable pub says : List (Back Pair) → Says
 unfolding tooManyLines unlessWrong wrongFrom wrongAt pairsSaid pairsRead
 says reads = cond (ltb 4096 (length reads)) (refusal tooManyLines) (unlessWrong (firstWrong reads) (pairsSaid (pairsRead reads)))
 
--- the same by what is kept of the lines
+-- ---- the same by what is kept of the lines: their number, the first that is no pair, and the pairs
+
 unfoldable pub stateSaid : State → Says
 unfolding tooManyLines unlessWrong pairsSaid pairsOf
 stateSaid s = cond (ltb 4096 (s .lines)) (refusal tooManyLines) (unlessWrong (s .wrong) (pairsSaid (firstPairs (s .lines) s)))

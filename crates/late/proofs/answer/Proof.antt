@@ -1,20 +1,35 @@
 -- What is said is handed over to be written; which bytes go out no contract of the kit says.
-use mathlib.Core.Path.{_≡_, sym}
+use mathlib.Core.Path.{_≡_, sym, ap, _∙_}
+use mathlib.Core.List.{List, []}
+use Prim.Native.Nat.{ℕ}
 use native.Mathlib.Omega.{arith}
 use lib.ListN.{take}
 use lib.Seq.{length-take-le}
-use Rattle.pairs.specs.State.{stateOf}
-use Rattle.late.specs.Says.{stateSaid}
+use Rattle.lines.specs.Cutter.{kept}
+use Rattle.pairs.specs.Reads.{readsOf}
+use Rattle.pairs.specs.State.{State, stateOf}
+use Rattle.pairs.specs.Kept.{Kept}
+use Rattle.pairs.specs.Calls.{HeardSoFar}
+use Rattle.late.specs.Says.{Says, says}
+use Rattle.late.proofs.RunLaws.{so-said}
 use Rattle.text.proofs.LaidLaws.{laid-reads}
 use borrow.Author.Needs.{needs}
 use Rattle.late.proofs.answer.Statement.{statement}
 use Rattle.late.proofs.answer.Tie as tie
 
--- what is handed over, and as what
-pub handed : (c : tie.After-say) → let f = c .before .before .before .before .before .before .before .before .before .before .before in
-    let said = stateSaid (stateOf (f .finish .last .0) (f .finish .last .1 .0) (f .finish .last .1 .1 .0) (f .finish .result)) in
-    (take (c .say .result .end) (c .say .last .1 .1 .1 .1 .1 .0) ≡ said .text) × (c .say .result .refused ≡ said .refused)
-handed c = (laid-reads (c .say .ensures .1 .0), c .say .ensures .0)
+abbrev finished : tie.After-say → tie.After-finish
+finished c = c .before .before .before .before .before .before .before .before .before .before .before
+
+abbrev start : tie.After-finish → tie.Start
+start c = c .before .before .before .before .before .before .before
+
+-- what is handed over, and as what, where these bytes have been heard
+pub handed : (c : tie.After-say) {begun : State} {bytes : List ℕ} → Kept [] begun
+    → (let a = start (finished c) .args in HeardSoFar begun bytes (stateOf (a .due .now) (a .acting .now) (a .doors .now) (a .heard)) (kept (a .heard .cutter)))
+    → (take (c .say .result .end) (c .say .last .1 .1 .1 .1 .1 .0) ≡ says (readsOf bytes) .text) × (c .say .result .refused ≡ says (readsOf bytes) .refused)
+handed c begun so =
+    let is = so-said begun so (finished c .finish .ensures) in
+    (laid-reads (c .say .ensures .1 .0) ∙ ap (λ (s : Says). s .text) is, c .say .ensures .0 ∙ ap (λ (s : Says). s .refused) is)
 
 finish-requires : tie.Need-finish-requires
 finish-requires c κs = search needs

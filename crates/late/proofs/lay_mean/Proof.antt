@@ -2,7 +2,7 @@
 use mathlib.Core.Path.{refl}
 use native.Mathlib.Omega.{arith}
 use Rattle.text.specs.Bytes.{bytes}
-use Rattle.late.proofs.LineLaws.{as-count, as-late, as-it-stands, mean-laid}
+use Rattle.late.proofs.LineLaws.{as-count, as-late, sum-as-read, mean-laid}
 use borrow.Author.Needs.{needs}
 use Rattle.late.proofs.lay_mean.Statement.{statement}
 use Rattle.late.proofs.lay_mean.Tie as tie
@@ -28,7 +28,7 @@ returns c =
     let many = c .before .before in
     let total = many .before .before .before .before .before in
     let few = total .before .before .before .before .before .pre .0 in
-    let sum = as-late "  mean " (as-it-stands (few .total)) (total .lay-late .ensures .0) in
+    let sum = as-late "  mean " (sum-as-read (few .total)) (total .lay-late .ensures .0) in
     let count = as-count "/" refl (many .lay-count .ensures .0) in
     (mean-laid _ (omega arith) sum count, omega (arith, many .lay-count .ensures .1, total .lay-late .ensures .1))
 

@@ -33,7 +33,7 @@ returns c =
     let z = c .before .before in
     let y = z .before .before .before .before .before in
     let x = y .before .before .before .before .before in
-    (report-laid _ (x .lay-row .ensures .0) (y .lay-row2 .ensures .0) (z .lay-row3 .ensures .0), omega (arith, z .lay-row3 .ensures .1, y .lay-row2 .ensures .1, x .lay-row .ensures .1))
+    (report-laid (x .before .before .before .before .args .report) (x .lay-row .ensures .0) (y .lay-row2 .ensures .0) (z .lay-row3 .ensures .0), omega (arith, z .lay-row3 .ensures .1, y .lay-row2 .ensures .1, x .lay-row .ensures .1))
 
 pub lay-report-spec : {M : Type 1} → statement M
 lay-report-spec =

@@ -1,7 +1,7 @@
 -- Name, numbers, median and mean, one behind another.
 use native.Mathlib.Omega.{arith}
 use Rattle.text.specs.Bytes.{bytes}
-use Rattle.late.proofs.LineLaws.{as-late, as-read, row-laid}
+use Rattle.late.proofs.LineLaws.{as-late, late-as-read, row-laid}
 use borrow.Author.Needs.{needs}
 use Rattle.late.proofs.lay_row.Statement.{statement}
 use Rattle.late.proofs.lay_row.Tie as tie
@@ -39,7 +39,7 @@ returns c =
     let w = x .before .before .before .before .before .before in
     let v = w .before .before .before .before in
     let small = v .before .before .before .before .pre .0 in
-    let median = as-late "  median " (as-read (small .middle)) (x .lay-late .ensures .0) in (
+    let median = as-late "  median " (late-as-read (small .middle)) (x .lay-late .ensures .0) in (
       row-laid _ _ (omega arith) (v .lay .ensures) (w .lay-seen .ensures .0) median (y .lay-mean .ensures .0) (z .lay2 .ensures),
       omega (arith, z .lay2 .ensures .ends, y .lay-mean .ensures .1, x .lay-late .ensures .1, w .lay-seen .ensures .1, v .lay .ensures .ends),
     )

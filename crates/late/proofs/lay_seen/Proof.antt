@@ -2,7 +2,7 @@
 use mathlib.Core.Path.{refl}
 use native.Mathlib.Omega.{arith}
 use Rattle.text.specs.Bytes.{bytes}
-use Rattle.late.proofs.LineLaws.{as-count, as-late, as-it-stands, as-read, seen-laid}
+use Rattle.late.proofs.LineLaws.{as-count, as-late, sum-as-read, late-as-read, seen-laid}
 use borrow.Author.Needs.{needs}
 use Rattle.late.proofs.lay_seen.Statement.{statement}
 use Rattle.late.proofs.lay_seen.Tie as tie
@@ -72,9 +72,9 @@ returns c =
     let v = count w in
     let few = start v .pre .0 in
     let counted = as-count "count " refl (v .lay-count .ensures .0) in
-    let first = as-late "  earliest " (as-read (few .first)) (w .lay-late .ensures .0) in
-    let last = as-late "  latest " (as-read (few .last)) (x .lay-late2 .ensures .0) in
-    let total = as-late "  sum " (as-it-stands (few .total)) (y .lay-late3 .ensures .0) in
+    let first = as-late "  earliest " (late-as-read (few .first)) (w .lay-late .ensures .0) in
+    let last = as-late "  latest " (late-as-read (few .last)) (x .lay-late2 .ensures .0) in
+    let total = as-late "  sum " (sum-as-read (few .total)) (y .lay-late3 .ensures .0) in
     let hits = as-count "  exact " refl (z .lay-count2 .ensures .0) in (
       seen-laid _ (omega (arith, start v .pre .1)) counted first last total hits,
       omega (arith, z .lay-count2 .ensures .1, y .lay-late3 .ensures .1, x .lay-late2 .ensures .1, w .lay-late .ensures .1, v .lay-count .ensures .1),
