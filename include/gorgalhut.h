@@ -1,13 +1,13 @@
 /* Gorgalhut: a priority queue of 64-bit entries in an array that the caller lends, its day tally, its frames, and a
  * report of how punctual the doors were.
  *
- * Every function is proved to answer as said here for every array, work area, line and number there can be: an array
- * of any words, damaged or too short, is refused by its number and left as it was. What no function can see is the
+ * Every function is proved to answer as said here for every array, work area, line, list and number there can be: an
+ * array of any words, damaged or too short, is refused by its number and left as it was. What no function can see is the
  * caller's to keep:
  *   - No pointer is null, not even of a length of 0.
  *   - Every pointer is aligned as its type is: a uint64_t at a multiple of 8.
- *   - A length counts words (or, for lines, bytes) from its pointer on, never bytes of words, and all of them are the
- *     caller's.
+ *   - A length counts what its pointer points to, words, ticks, numbers or bytes, never bytes of words, and all of them
+ *     are the caller's.
  *   - No two things lent for writing in one call overlap each other or anything else lent for it: not array and work
  *     area, not word and steps, not a number inside the array.
  *   - No other thread uses the same memory during a call. The library itself keeps nothing: it has no memory of its
@@ -172,9 +172,9 @@ enum gorgalhut_number {
 /* Reports on pairs: pair i is due[i], the tick that an order was due at, acting[i], the tick that its door acted at, and
  * doors[i]. Lateness is acting less due around the clock of 2^32 ticks, from -2147483648 to 2147483647: early is below
  * 0, and exactly half the clock counts as early. A door without pairs has six zeros; "both" does not add to left and
- * right. Answers 0; 10 if the three counts differ or report_numbers is below 18, and then nothing is written; 15 for
- * more than 4096 pairs; 7 for a door above 2. On 15 and 7 all eighteen numbers are 0. Numbers behind the eighteenth, and
- * the pairs, never change. No other memory is needed. */
+ * right. Answers 0, or the first of these that applies: 10 if the three counts differ or report_numbers is below 18, and
+ * then nothing is written; 15 for more than 4096 pairs; 7 for a door above 2. On 15 and 7 all eighteen numbers are 0.
+ * Numbers behind the eighteenth, and the pairs, never change. No other memory is needed. */
 uint8_t gorgalhut_lateness(const uint32_t *due, size_t due_count, const uint32_t *acting, size_t acting_count,
                            const uint8_t *doors, size_t door_count, int64_t *report, size_t report_numbers);
 

@@ -23,7 +23,7 @@ const TICKS: u32 = 50;
 
 const LEFT: u8 = 1;
 
-/// More than any cache that is simulated for data.
+/// More than the first cache that is simulated, whose misses are counted.
 const CACHE: usize = 1 << 16;
 
 #[derive(Clone, Copy, PartialEq, Eq)]

@@ -113,7 +113,7 @@ fn generated_session_goes_through() {
 fn late(input: &[u8]) -> (String, String) {
     let output = run(&["--late"], input);
     let [told, said] = [output.stdout, output.stderr].map(|text| String::from_utf8(text).unwrap());
-    assert_eq!(output.status.success(), said.is_empty());
+    assert!(output.status.success());
     (told, said)
 }
 

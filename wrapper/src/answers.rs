@@ -23,7 +23,8 @@ pub enum Refusal {
     DoorAbove = 7,
     /// 9: the book is sound, but entries are out of order.
     OrderBroken = 9,
-    /// 10: not a frame, not an order that can be written, or too short a buffer; lists of different lengths, which are no pairs.
+    /// 10: not a frame, not an order that can be written, or too short a buffer; of a report, slices of different
+    /// lengths.
     NotAFrame = 10,
     /// 15: more than 4,096 pairs.
     TooManyPairs = 15,
@@ -84,7 +85,7 @@ impl Display for Refusal {
             Refusal::NoneHeld => "no entry is held",
             Refusal::DoorAbove => "the door is above 2",
             Refusal::OrderBroken => "entries are out of order",
-            Refusal::NotAFrame => "not a frame, or no pairs",
+            Refusal::NotAFrame => "not a frame, or slices of different lengths",
             Refusal::TooManyPairs => "more than 4,096 pairs",
         })
     }

@@ -33,7 +33,8 @@ const NUMBERS: usize = 6;
 impl Report {
     /// Reports on pairs: the tick that an order was due at, the tick that its door acted at, and its door byte stand at
     /// the same place of three slices. Lateness is taken around the clock, and exactly half the clock is early. Refused
-    /// are slices of different lengths ([`NotAFrame`](crate::Refusal::NotAFrame)), more than 4,096 pairs, and a door above 2.
+    /// are, in this order, slices of different lengths ([`NotAFrame`](crate::Refusal::NotAFrame)), more than 4,096 pairs,
+    /// and a door above 2.
     ///
     /// ```
     /// use gorgalhut::Report;

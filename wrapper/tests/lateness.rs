@@ -1,6 +1,6 @@
 //! How punctual the doors were, through the static library.
 
-use gorgalhut::{Lateness, Refusal, Report, MOST_PAIRS};
+use gorgalhut::{Lateness, Refusal, Report, Tally, MOST_PAIRS};
 
 const HALF: u32 = 1 << 31;
 
@@ -86,4 +86,11 @@ fn refusals_in_their_order() {
         Err(Refusal::NotAFrame)
     );
     assert_eq!(Refusal::of_number(15), Some(Refusal::TooManyPairs));
+}
+
+#[test]
+fn the_tally_is_of_the_queue() {
+    let mut tally = Tally::new();
+    tally.add_insert(&Err(Refusal::TooManyPairs));
+    assert_eq!(tally, Tally::new());
 }

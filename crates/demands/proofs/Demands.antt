@@ -340,8 +340,10 @@ library-frame-written-again = library-write-back
 -- ---- document 02, R-6: early and late, in whole ticks
 
 -- "Refusals: 15 for more pairs, 7 for a door above 2, 15 first.": each answer is given exactly when its row says so, with the list that its row says, for any lists
-pub each-report-exactly : (due acting doors : List ℕ) (report after : List ℤ) (n : ℕ) → (n ≡ timedAnswer due acting doors report) × (after ≡ timedReport due acting doors report) → Timed due acting doors report n after
-each-report-exactly due acting doors report after n told = told-row due acting doors report told
+pub each-report-exactly : (due acting doors : List ℕ) (report after : List ℤ) (n : ℕ)
+    → ((n ≡ timedAnswer due acting doors report) × (after ≡ timedReport due acting doors report) → Timed due acting doors report n after)
+    × (Timed due acting doors report n after → (n ≡ timedAnswer due acting doors report) × (after ≡ timedReport due acting doors report))
+each-report-exactly due acting doors report after n = (λ told. told-row due acting doors report told, λ row. row-told due acting doors report row)
 
 pub reports-agree : (due acting doors : List ℕ) (report one two : List ℤ) (n m : ℕ) → Timed due acting doors report n one → Timed due acting doors report m two → (n ≡ m) × (one ≡ two)
 reports-agree due acting doors report one two n m first second =

@@ -21,32 +21,31 @@ module _ (due acting doors : List ℕ) (report : List ℤ) where
   abbrev Told : ℕ → List ℤ → Type 0
   Told n after = (n ≡ timedAnswer due acting doors report) × (after ≡ timedReport due acting doors report)
 
-  module _ (long : 18 ≤ length report) (a : ℕ) (e : a ≡ answerOf due acting doors) where
-    made : reportFrom a (pairsOf due acting doors) ≡ reportOf due acting doors
-    made = ap (λ a. reportFrom a (pairsOf due acting doors)) e
+  made : (a : ℕ) → a ≡ answerOf due acting doors → reportFrom a (pairsOf due acting doors) ≡ reportOf due acting doors
+  made a e = ap (λ a. reportFrom a (pairsOf due acting doors)) e
 
   -- lists that are no pairs
   ten : 18 ≤ length report → 10 ≡ answerOf due acting doors → Told 10 report
   ten long e =
-      let m = made long 10 e in
+      let m = made 10 e in
       (made-answer due acting doors report long (reportFrom 10 (pairsOf due acting doors)) m, unequal-report due acting doors report long (reportFrom 10 (pairsOf due acting doors)) m refl)
 
   fifteen : 18 ≤ length report → 15 ≡ answerOf due acting doors → Told 15 (zeros ++ drop 18 report)
   unfolding numbered inOrder sumOf hits
   fifteen long e =
-      let m = made long 15 e in
+      let m = made 15 e in
       (made-answer due acting doors report long (reportFrom 15 (pairsOf due acting doors)) m, made-report due acting doors report long (reportFrom 15 (pairsOf due acting doors)) m (omega arith) refl)
 
   seven : 18 ≤ length report → 7 ≡ answerOf due acting doors → Told 7 (zeros ++ drop 18 report)
   unfolding numbered inOrder sumOf hits
   seven long e =
-      let m = made long 7 e in
+      let m = made 7 e in
       (made-answer due acting doors report long (reportFrom 7 (pairsOf due acting doors)) m, made-report due acting doors report long (reportFrom 7 (pairsOf due acting doors)) m (omega arith) refl)
 
   nought : 18 ≤ length report → 0 ≡ answerOf due acting doors
       → Told 0 (punctual.ofByte 0 due acting doors ++ (punctual.ofByte 1 due acting doors ++ punctual.ofByte 2 due acting doors) ++ drop 18 report)
   nought long e =
-      let m = made long 0 e in
+      let m = made 0 e in
       (made-answer due acting doors report long (reportFrom 0 (pairsOf due acting doors)) m, made-report due acting doors report long (reportFrom 0 (pairsOf due acting doors)) m (omega arith) refl)
 
   -- what a row says is so

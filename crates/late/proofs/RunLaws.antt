@@ -1,17 +1,13 @@
 -- The whole input, in any pieces: what is said is decided by its bytes alone.
 use Prim.Native.Nat.{ℕ}
 use mathlib.Core.Path.{_≡_, sym, ap, _∙_}
-use mathlib.Core.Bool.{Bool}
 use mathlib.Core.List.{List, [], flatten}
-use lib.ListN.{take}
 use Rattle.pairs.specs.Reads.{readsOf, lastReads}
 use Rattle.pairs.specs.State.{State, linesAfter}
 use Rattle.pairs.specs.Kept.{Kept}
 use Rattle.pairs.specs.Calls.{HeardSoFar, Fed}
 use Rattle.pairs.proofs.CallLaws.{so-ends, fed-kept}
-use Rattle.text.specs.Laid.{Laid}
-use Rattle.text.proofs.LaidLaws.{laid-reads}
-use Rattle.late.specs.Says.{Says, says, stateSaid}
+use Rattle.late.specs.Says.{says, stateSaid}
 use Rattle.late.proofs.SaidLaws.{kept-said}
 
 -- the last line is read, behind bytes that were heard in any pieces
@@ -21,13 +17,6 @@ so-said begun so e = kept-said (so-ends so begun e)
 module _ {s s′ : State} {pieces : List (List ℕ)} (begun : Kept [] s) (fed : Fed s [] pieces s′) where
   pub fed-said : stateSaid s′ ≡ says (readsOf (flatten pieces))
   fed-said = kept-said (fed-kept begun fed)
-
-  -- what `say` lays is the text of it, and it tells whether this is a refusal
-  pub fed-laid : {before after : List ℕ} {end : ℕ} → Laid (stateSaid s′ .text) 0 before after end → take end after ≡ says (readsOf (flatten pieces)) .text
-  fed-laid laid = laid-reads laid ∙ ap (λ (said : Says). said .text) fed-said
-
-  pub fed-refused : {refused : Bool} → refused ≡ stateSaid s′ .refused → refused ≡ says (readsOf (flatten pieces)) .refused
-  fed-refused e = e ∙ ap (λ (said : Says). said .refused) fed-said
 
 -- the same bytes in other pieces, from another beginning
 pub fed-same : {s t s′ t′ : State} {some others : List (List ℕ)} → Kept [] s → Kept [] t → flatten some ≡ flatten others → Fed s [] some s′ → Fed t [] others t′ → stateSaid s′ ≡ stateSaid t′

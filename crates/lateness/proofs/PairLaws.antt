@@ -5,6 +5,7 @@ use mathlib.Core.Bool.{Bool, true, false, cond}
 use mathlib.Core.List.{List, [], _∷_}
 use Prim.Native.Nat.{ℕ, zero, suc, _-_, _*_, _≤_, _<_}
 use native.Mathlib.Omega.{arith}
+use lib.Dec.{eqb}
 use lib.ListN.{length, getD, drop, length-drop}
 use lib.Seq.{drop-cons, drop-length}
 use lib.IntN.{ℤ, pos, negsuc}
@@ -25,15 +26,19 @@ no-doors [] acting = refl
 no-doors (d ∷ due) [] = refl
 no-doors (d ∷ due) (a ∷ acting) = refl
 
+same-byte : (b door : ℕ) → b ≡ door → eqb b door ≡ true
+same-byte b door e = by-eqb b door (λ t. t ≡ true) (λ p. refl) (λ n. absurd (n e))
+
+other-byte : (b door : ℕ) → b ≢ door → eqb b door ≡ false
+other-byte b door n = by-eqb b door (λ t. t ≡ false) (λ p. absurd (n p)) (λ m. refl)
+
 yes-door : (door d a b : ℕ) (due acting doors : List ℕ) → b ≡ door → ofDoor door (pairsOf (d ∷ due) (a ∷ acting) (b ∷ doors)) ≡ latenessOf d a ∷ ofDoor door (pairsOf due acting doors)
 unfolding ofDoor pairsOf
-yes-door door d a b due acting doors e =
-    by-eqb b door (λ t. cond t (latenessOf d a ∷ ofDoor door (pairsOf due acting doors)) (ofDoor door (pairsOf due acting doors)) ≡ latenessOf d a ∷ ofDoor door (pairsOf due acting doors)) (λ p. refl) (λ n. absurd (n e))
+yes-door door d a b due acting doors e = rw (same-byte b door e, ofDoor, pairsOf) refl
 
 no-door : (door d a b : ℕ) (due acting doors : List ℕ) → b ≢ door → ofDoor door (pairsOf (d ∷ due) (a ∷ acting) (b ∷ doors)) ≡ ofDoor door (pairsOf due acting doors)
 unfolding ofDoor pairsOf
-no-door door d a b due acting doors e =
-    by-eqb b door (λ t. cond t (latenessOf d a ∷ ofDoor door (pairsOf due acting doors)) (ofDoor door (pairsOf due acting doors)) ≡ ofDoor door (pairsOf due acting doors)) (λ p. absurd (e p)) (λ n. refl)
+no-door door d a b due acting doors e = rw (other-byte b door e, ofDoor, pairsOf) refl
 
 module _ {due acting doors : List ℕ} (lent : Lent due acting doors) (door : ℕ) where
   pub from-end : (i : ℕ) → i ≡ length doors → from door i due acting doors ≡ []

@@ -82,10 +82,6 @@ none (x ∷ xs) e = absurd (omega arith)
 
 -- ---- what one pass tells
 
-pub seen-none : (xs : List ℤ) → xs ≡ [] → record { count = 0; earliest = pos 0; latest = pos 0; sum = pos 0; exact = 0 } ≡ seenOf xs
-unfolding numbered inOrder sumOf hits
-seen-none xs e = ap seenOf (sym e)
-
 module _ (x : ℤ) (xs : List ℤ) (seen : Seen) (told : seen ≡ seenOf xs) where
   pub seen-first : seen .count ≡ 0 → (l : ℤ) (h : ℕ) → l ≡ x → h ≡ hits (x ∷ []) → record { count = 1; earliest = l; latest = l; sum = l; exact = h } ≡ seenOf (x ∷ xs)
   unfolding sumOf

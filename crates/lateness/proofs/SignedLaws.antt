@@ -83,7 +83,7 @@ module _ {n : ℕ} (h : n < turn) where
 
 module _ (y z : ℤ) (h : mag y < half) (k : mag z ≤ 4096 * half) where
   sum-here : toZ w64 (ofZ w64 y) +ℤ toZ w64 (ofZ w64 z) ≡ y +ℤ z
-  sum-here = rw (back (fits-half h), back (small {z = z} (omega arith))) refl
+  sum-here = rw (back {z = y} (fits-half h), back {z = z} (small (omega arith))) refl
 
   pub sum-fits : SFits w64 (toZ w64 (ofZ w64 y) +ℤ toZ w64 (ofZ w64 z))
   sum-fits = rw sum-here (small (omega (arith, mag-sum y z)))

@@ -1,6 +1,7 @@
 -- Lateness and reports, computed.
 use mathlib.Core.Path.{_≡_, refl}
 use mathlib.Core.List.{[], _∷_}
+use lib.ListN.{replicate}
 use lib.IntN.{pos, negsuc}
 use Rattle.lateness.specs.Clock.{distance, latenessOf}
 use Rattle.lateness.specs.Ordered.{putIn, inOrder, numbered}
@@ -62,3 +63,16 @@ unequal = refl
 doorAbove : answerOf (1 ∷ 1 ∷ []) (1 ∷ 1 ∷ []) (2 ∷ 3 ∷ []) ≡ 7
 unfolding answerOf firstAbove
 doorAbove = refl
+
+-- 15 before 7, 10 before 15, and zeros
+tooMany : answerOf (replicate 4097 1) (replicate 4097 1) (replicate 4097 3) ≡ 15
+unfolding answerOf firstAbove
+tooMany = refl
+
+unequalMany : answerOf [] (replicate 4097 1) (replicate 4097 3) ≡ 10
+unfolding answerOf firstAbove
+unequalMany = refl
+
+refusedZeros : reportOf (1 ∷ []) (5 ∷ []) (3 ∷ []) ≡ record { answer = 7; both = rowOf []; left = rowOf []; right = rowOf [] }
+unfolding answerOf firstAbove pairsOf
+refusedZeros = refl

@@ -40,7 +40,7 @@ pub record Few (seen : Seen) : Type 0 where
 abbrev pub rowOf : List ℤ → Row
 rowOf xs = record { seen = seenOf xs; median = numbered ((length xs + 1) / 2) xs }
 
--- and a row's
+-- and a row of so few
 pub record Small (row : Row) : Type 0 where
   pub seen : Few (row .seen)
   pub middle : mag (row .median) < half

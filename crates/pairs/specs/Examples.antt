@@ -13,9 +13,9 @@ use Rattle.pairs.specs.Kept.{wrongAt, wrongFrom, firstWrong}
 unfoldable late : List ℕ
 late = digits 8 4294967295 ++ digits 8 10 ++ digits 2 2
 
-read : pairOf late ≡ done (record { due = 4294967295; acting = 10; door = 2 })
+aPair : pairOf late ≡ done (record { due = 4294967295; acting = 10; door = 2 })
 unfolding late pairOf digits digitOf numberAfter capital valueOf
-read = refl
+aPair = refl
 
 -- a digit too few, one too many, a small letter, nothing
 short : pairOf (digits 17 1) ≡ refused

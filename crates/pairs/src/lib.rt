@@ -158,6 +158,7 @@ pub fn hear(
 pub fn finish(due: &mut [u32], acting: &mut [u32], doors: &mut [u8], heard: Heard) -> Heard
     requires { ⌜ Room (now due) (now acting) (now doors) ⌝ }
     ensures { λ r. ⌜ stateOf (now (due .exit)) (now (acting .exit)) (now (doors .exit)) r ≡ linesAfter (stateOf (now (due .entry)) (now (acting .entry)) (now (doors .entry)) heard) (lastReads (kept (heard .cutter))) ⌝ }
+    ensures { λ r. ⌜ kept (r .cutter) ≡ [] ⌝ }
 {
     if heard.cutter.len == 0 {
         return heard;

@@ -33,7 +33,7 @@ last-read : valueOf last ≡ 18446744073709551615
 unfolding valueAfter last
 last-read = refl
 
--- -12, and the two ends of 64 bits
+-- -12, the least of 64 bits, and 0, which has no sign
 early : signed (negsuc 11) ≡ 45 ∷ 49 ∷ 50 ∷ []
 unfolding signed places digits
 early = refl

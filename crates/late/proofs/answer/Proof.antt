@@ -28,7 +28,7 @@ pub handed : (c : tie.After-say) {begun : State} {bytes : List ℕ} → Kept [] 
     → (let a = start (finished c) .args in HeardSoFar begun bytes (stateOf (a .due .now) (a .acting .now) (a .doors .now) (a .heard)) (kept (a .heard .cutter)))
     → (take (c .say .result .end) (c .say .last .1 .1 .1 .1 .1 .0) ≡ says (readsOf bytes) .text) × (c .say .result .refused ≡ says (readsOf bytes) .refused)
 handed c begun so =
-    let is = so-said begun so (finished c .finish .ensures) in
+    let is = so-said begun so (finished c .finish .ensures .0) in
     (laid-reads (c .say .ensures .1 .0) ∙ ap (λ (s : Says). s .text) is, c .say .ensures .0 ∙ ap (λ (s : Says). s .refused) is)
 
 finish-requires : tie.Need-finish-requires

@@ -17,7 +17,8 @@ returns : tie.Need-returns
 returns c =
     let cutter = c .before .before .before .before .before .args .heard .cutter in
     let z : cutter .len ≡ 0 = omega arith in
-    last-none _ _ (ap (λ n. take n (cutter .bytes)) z)
+    let empty = ap (λ n. take n (cutter .bytes)) z in
+    (last-none _ _ empty, empty)
 
 ended-requires : tie.Need-ended-requires
 ended-requires c κs = search needs
@@ -39,7 +40,9 @@ some : (c : tie.After-ended) → 0 < length (kept (start c .args .heard .cutter)
 some c = kept-some (start c .args .heard .cutter) (long (start c)) (λ e. omega arith)
 
 returns-2 : tie.Need-returns-2
-returns-2 c = last-some _ _ (some (c .before .before .before .before .before .before)) (c .before .before .before .before .before .before .ended .ensures .0)
+returns-2 c =
+    let e = c .before .before .before .before .before .before in
+    (last-some _ _ (some e) (e .ended .ensures .0), e .ended .ensures .1)
 
 pub finish-spec : {M : Type 1} → statement M
 finish-spec =
