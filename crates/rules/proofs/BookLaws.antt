@@ -7,7 +7,7 @@ use native.Mathlib.Omega.{arith}
 use borrow.Author.Tests.{le-leb}
 use lib.ListN.{length, getD, replicate, List·getD-map}
 use lib.Dec.{T, leb, eqb, leb→le, le→leb, eqb→eq}
-use Rattle.rules.specs.Links.{s, k, capacity, first, numberOfS, bufferCount, most, LinkNumber}
+use Rattle.rules.specs.Links.{s, k, capacity, first, numberOfS, bufferCount, mostLinks, most, LinkNumber}
 use Rattle.rules.specs.Tests.{_and_, _or_, every}
 use Rattle.rules.specs.Tree.{Buffers, Tree, exhausted, buffer, merger, kMerger, linksFrom, treeOf}
 use Rattle.rules.specs.Take.{heldIn, insertion}
@@ -48,7 +48,7 @@ module _ (bs : Buffers) where
 -- "link number 1 to 4": the test passes
 pub number-is : {links : ℕ} → LinkNumber links → isLinkNumber links ≡ true
 unfolding isLinkNumber
-number-is {links} h = rw (le-leb 1 links (h .low), le-leb links 4 (h .high))
+number-is {links} h = rw (le-leb 1 links (h .low), le-leb links mostLinks (h .high))
 
 -- of link i: "c(i) from 1 to k(i)+1; S(i,j) empty for j at or above c(i); B(i), inner buffers and S of link i together at most (c(i)-1) x s(i)"
 pub record LinkKept (q : Queue) (i : ℕ) : Type 0 where

@@ -1,55 +1,62 @@
 -- The steps of a history are bounded, and its packings are rare.
-use Prim.Native.Nat.{ℕ, zero, suc, _+_, _*_, _≤_}
+use Prim.Native.Nat.{ℕ, zero, suc, _+_, _-_, _*_, _≤_}
 use mathlib.Core.Path.{_≡_, subst}
-use mathlib.Core.List.{List, [], _∷_}
 use native.Mathlib.Omega.{arith}
-use lib.Dec.{T, leb, leb→le, lit≤}
-use lib.ListN.{getD}
-use Rattle.rules.specs.Links.{mostLinks, most}
+use mathlib.Core.Bool.{Bool}
+use lib.Dec.{T, leb, leb→le}
+use Rattle.rules.specs.Tests.{every}
+use Rattle.rules.specs.Links.{s, k, height, capacity, mostLinks, LinkNumber}
 use Rattle.rules.specs.Bounds.{perInsert, perPacking, stepsBound, rows}
 use Rattle.rules.specs.Queue.{Queue}
 use Rattle.rules.specs.Book.{isLinkNumber}
-use Rattle.rules.proofs.Table.{and-two}
-use Rattle.rules.proofs.Bound.{Paid}
-use Rattle.rules.proofs.History.{Since, steps-bound, paid-one, paid-two, paid-three, paid-four}
+use Rattle.rules.proofs.Table.{and-one, and-two, every-at}
+use Rattle.rules.proofs.Credits.{carried}
+use Rattle.rules.proofs.Bound.{Paid, outputsMost}
+use Rattle.rules.proofs.History.{Since, steps-bound}
 
--- a link number is one of four
-pub of-four : (P : ℕ → Type 0) → P 1 → P 2 → P 3 → P 4 → (l : ℕ) → T (isLinkNumber l) → P l
-unfolding isLinkNumber mostLinks
-of-four P one two three four zero t = absurd t
-of-four P one two three four (suc zero) t = one
-of-four P one two three four (suc (suc zero)) t = two
-of-four P one two three four (suc (suc (suc zero))) t = three
-of-four P one two three four (suc (suc (suc (suc zero)))) t = four
-of-four P one two three four (suc (suc (suc (suc (suc l))))) t =
-    let m = suc (suc (suc (suc (suc l)))) in
-    let small = leb→le m 4 (and-two (leb 1 m) (leb m 4) t) in
-    absurd (omega arith)
+-- a link number is a link's
+pub is-link : (l : ℕ) → T (isLinkNumber l) → LinkNumber l
+unfolding isLinkNumber
+is-link l t = record { low = leb→le 1 l (and-one (leb 1 l) (leb l mostLinks) t); high = leb→le l mostLinks (and-two (leb 1 l) (leb l mostLinks) t) }
 
--- what each link carries, for each number of links
-credits : ℕ → List ℕ
-credits l = getD ([] ∷ (0 ∷ 0 ∷ []) ∷ (0 ∷ 32 ∷ 16 ∷ []) ∷ (0 ∷ 88 ∷ 184 ∷ 232 ∷ []) ∷ (0 ∷ 160 ∷ 400 ∷ 1312 ∷ 2864 ∷ []) ∷ []) l []
+-- what a sweep to link i costs at most
+unfoldable sweepCost : ℕ → ℕ
+unfolding height s outputsMost
+sweepCost i = (i + height i) * s i + outputsMost 0 1 (i - 1)
+
+-- where each insert pays a, all S of the first i links carry so much together, and each S of link i what is left of eight inserts and of that after a sweep to it
+unfoldable carriedUpTo : ℕ → ℕ → ℕ
+unfolding sweepCost k
+carriedUpTo a zero = 0
+carriedUpTo a (suc i) = let before = carriedUpTo a i in before + k (suc i) * (8 * a + before - sweepCost (suc i))
+
+unfoldable credit : ℕ → ℕ → ℕ
+unfolding carriedUpTo
+credit a i = 8 * a + carriedUpTo a (i - 1) - sweepCost i
+
+-- that is enough for each sweep
+unfoldable paidFor : ℕ → ℕ → Bool
+unfolding credit sweepCost carried perInsert
+paidFor l i = leb (credit (perInsert l) i + sweepCost i) (8 * perInsert l + carried (credit (perInsert l)) 1 (i - 1))
 
 abbrev Enough : ℕ → Type 0
-Enough l = Paid l (perInsert l) (perPacking l) (λ i. getD (credits l) i 0)
+Enough l = Paid l (perInsert l) (perPacking l) (credit (perInsert l))
 
-paid : (l : ℕ) → T (isLinkNumber l) → Enough l
-unfolding perInsert perPacking credits
-paid = of-four Enough paid-one paid-two paid-three paid-four
+-- "2n + 32P, 6n + 384P, 13n + 5,760P, 22n + 138,240P", and "33n + 5,875,200P" for a fifth link
+paid : (l : ℕ) → 1 ≤ l → l ≤ 5 → Enough l
+unfolding every paidFor sweepCost perPacking capacity k
+paid l some few =
+    record {
+      sweep = λ i low high.
+          leb→le (credit (perInsert l) i + sweepCost i) (8 * perInsert l + carried (credit (perInsert l)) 1 (i - 1))
+          (every-at (paidFor l) 1 l (every-at (λ l. every (paidFor l) 1 l) 1 5 tt l some (omega arith)) i low (omega arith));
+      packing = omega arith;
+    }
 
 -- "steps bound"
 pub few-steps : (l : ℕ) → T (isLinkNumber l) → {n p t : ℕ} {q : Queue} → Since l n p t q → t ≤ stepsBound l n p
 unfolding stepsBound
-few-steps l number h = steps-bound l number (perInsert l) (perPacking l) (λ i. getD (credits l) i 0) (paid l number) h
-
--- no queue holds more
-pub few-held : (l : ℕ) → T (isLinkNumber l) → most l ≤ 17280
-unfolding most
-few-held = of-four (λ l. most l ≤ 17280) (lit≤ tt) (lit≤ tt) (lit≤ tt) (lit≤ tt)
-
--- one to four
-pub one-to-four : (l : ℕ) → T (isLinkNumber l) → (1 ≤ l) × (l ≤ 4)
-one-to-four = of-four (λ l. (1 ≤ l) × (l ≤ 4)) (lit≤ tt, lit≤ tt) (lit≤ tt, lit≤ tt) (lit≤ tt, lit≤ tt) (lit≤ tt, lit≤ tt)
+few-steps l number h = steps-bound l number (perInsert l) (perPacking l) (credit (perInsert l)) (paid l (is-link l number .low) (omega (arith, is-link l number .high))) h
 
 -- the rows, from the one bound
 pub four-rows : (l n p t : ℕ) → t ≤ stepsBound l n p

@@ -1,14 +1,12 @@
 -- A queue since its setup: the book rules hold, steps are bounded, packings are rare.
 use Prim.Native.Nat.{ℕ, suc, _+_, _-_, _*_, _/_, _≤_, _<_}
 use mathlib.Core.Path.{_≡_, refl, _∙_, subst}
-use mathlib.Core.Bool.{Bool}
-use mathlib.Core.List.{List, [], _∷_}
+use mathlib.Core.List.{[]}
 use native.Mathlib.Omega.{arith}
 use native.Mathlib.Nat.{le-div-iff-mul-le, mul-add}
 use lib.ListN.{getD}
-use lib.Dec.{T, leb, leb→le, lit≤}
-use Rattle.rules.specs.Links.{s, k, height, capacity, most}
-use Rattle.rules.specs.Tests.{every}
+use lib.Dec.{T}
+use Rattle.rules.specs.Links.{s, most}
 use Rattle.rules.specs.Tree.{treeOf}
 use Rattle.rules.specs.Take.{insertion, ready, takeOne}
 use Rattle.rules.specs.Queue.{Queue, keyOf, held, fresh}
@@ -16,7 +14,6 @@ use Rattle.rules.specs.Order.{ascends, ordered, inOrder}
 use Rattle.rules.specs.Insert.{inserted}
 use Rattle.rules.specs.Book.{isLinkNumber}
 use Rattle.rules.specs.Calls.{withBuffers}
-use Rattle.rules.proofs.Table.{every-at}
 use Rattle.rules.proofs.Tests.{and-both}
 use Rattle.rules.proofs.Weight.{oneIf}
 use Rattle.rules.proofs.Ordered.{says-ascends, says-ordered, none-all-ordered}
@@ -27,8 +24,7 @@ use Rattle.rules.proofs.BookLaws.{Kept}
 use Rattle.rules.proofs.BookKept.{fresh-empty, fresh-held, Shaped, beside-tree, take-shrinks, ready-shrinks, take-kept, look-kept, take-shaped, look-shaped, fresh-kept, fresh-shaped}
 use Rattle.rules.proofs.PackKept.{number-some}
 use Rattle.rules.proofs.InsertLaws.{inserted-ordered, inserted-kept, inserted-shaped, inserted-links}
-use Rattle.rules.proofs.Credits.{carried}
-use Rattle.rules.proofs.Bound.{outputsMost, Paid, potential, insert-potential, take-potential, look-potential, fresh-potential}
+use Rattle.rules.proofs.Bound.{Paid, potential, insert-potential, take-potential, look-potential, fresh-potential}
 use Rattle.rules.proofs.Packings.{since, insert-since, shrinks-since, fresh-since}
 
 -- a queue of so many links, and since its setup: the accepted inserts, the packings, and the merge steps of all calls
@@ -116,44 +112,3 @@ module _ (links : ℕ) (number : T (isLinkNumber links)) where
       let some : 0 < s links = omega (arith, s-least links (number-some number)) in
       let enough : p * s links ≤ n = omega (arith, since-counted h) in
       le-div-iff-mul-le some .1 enough
-
--- ---- the rows of the table
-
--- what is to be paid, as a test
-unfoldable pub paidTest : ℕ → ℕ → ℕ → List ℕ → ℕ → Bool
-paidTest links a b table i = leb (getD table i 0 + ((i + height i) * s i + outputsMost 0 1 (i - 1))) (8 * a + carried (λ i. getD table i 0) 1 (i - 1))
-
-paid-by : (links a b : ℕ) (table : List ℕ) → T (every (paidTest links a b table) 1 links) → (links + height links) * most links ≤ b → Paid links a b (λ i. getD table i 0)
-unfolding paidTest
-paid-by links a b table t packing =
-    record {
-      sweep = λ i low high.
-          leb→le (getD table i 0 + ((i + height i) * s i + outputsMost 0 1 (i - 1))) (8 * a + carried (λ i. getD table i 0) 1 (i - 1))
-          (every-at (paidTest links a b table) 1 links t i low (omega arith));
-      packing = packing;
-    }
-
--- "| L | .. | steps bound |": 2n + 32P, 6n + 384P, 13n + 5,760P, 22n + 138,240P; and 33n + 5,875,200P for a fifth link
-pub paid-one : Paid 1 2 32 (λ i. getD (0 ∷ 0 ∷ []) i 0)
-unfolding every paidTest height most outputsMost carried s k capacity
-paid-one = paid-by 1 2 32 (0 ∷ 0 ∷ []) tt (lit≤ tt)
-
--- two links
-pub paid-two : Paid 2 6 384 (λ i. getD (0 ∷ 32 ∷ 16 ∷ []) i 0)
-unfolding every paidTest height most outputsMost carried s k capacity
-paid-two = paid-by 2 6 384 (0 ∷ 32 ∷ 16 ∷ []) tt (lit≤ tt)
-
--- three
-pub paid-three : Paid 3 13 5760 (λ i. getD (0 ∷ 88 ∷ 184 ∷ 232 ∷ []) i 0)
-unfolding every paidTest height most outputsMost carried s k capacity
-paid-three = paid-by 3 13 5760 (0 ∷ 88 ∷ 184 ∷ 232 ∷ []) tt (lit≤ tt)
-
--- four
-pub paid-four : Paid 4 22 138240 (λ i. getD (0 ∷ 160 ∷ 400 ∷ 1312 ∷ 2864 ∷ []) i 0)
-unfolding every paidTest height most outputsMost carried s k capacity
-paid-four = paid-by 4 22 138240 (0 ∷ 160 ∷ 400 ∷ 1312 ∷ 2864 ∷ []) tt (lit≤ tt)
-
--- five
-pub paid-five : Paid 5 33 5875200 (λ i. getD (0 ∷ 248 ∷ 664 ∷ 2632 ∷ 14744 ∷ 63400 ∷ []) i 0)
-unfolding every paidTest height most outputsMost carried s k capacity
-paid-five = paid-by 5 33 5875200 (0 ∷ 248 ∷ 664 ∷ 2632 ∷ 14744 ∷ 63400 ∷ []) tt (lit≤ tt)

@@ -9,7 +9,7 @@ use native.Mathlib.Nat.{one-le-pow}
 use lib.Pow.{pow-pos}
 use lib.ListN.{length}
 use lib.Dec.{T, leb, ltb, eqb, leb→le, nleb→lt, eqb→eq, eqb-refl}
-use Rattle.rules.specs.Links.{least, heightFor, kFor, s, k, height, root, topHeight, innerSize, innerSizes, levels, capacity, first}
+use Rattle.rules.specs.Links.{least, heightFor, kFor, s, k, height, root, topHeight, innerSize, innerSizes, levels, capacity, first, bookWords, words}
 
 -- ---- cases of a test
 
@@ -129,6 +129,11 @@ unfolding levels
 levels-some i h = (rw (k-power i) (cube-some (height i)), inners-some (height i) 1 (height i - 1) (omega arith) (omega (arith, height-some i h)))
 
 -- ---- numbers of buffers
+
+-- every array that is long enough has the book
+pub book-in-words : (links : ℕ) → bookWords ≤ words links
+unfolding words
+book-in-words links = omega arith
 
 -- A(1) follows I
 pub first-one : first 1 ≡ 1

@@ -1,14 +1,12 @@
--- The code's sizes against the rule: one table, one computed test, one law that says of every buffer what the test says.
-use mathlib.Core.Path.{_≡_, refl, sym, ap, _∙_}
+-- A test that computes to true for every link, or for every buffer of a level, holds of each: how the code's sizes are the rule's.
+use mathlib.Core.Path.{_≡_, sym, ap, subst}
 use mathlib.Core.Bool.{Bool, true, false}
-use mathlib.Core.List.{List, [], _∷_}
-use Prim.Native.Nat.{ℕ, zero, suc, _+_, _-_, _*_, _≤_, _<_}
+use Prim.Native.Nat.{ℕ, zero, suc, _+_, _-_, _*_, _^_, _≤_, _<_}
 use native.Mathlib.Omega.{arith}
 use native.Mathlib.Decide.{ℕ-discrete}
-use lib.Dec.{T, eqb, eqb→eq, leb, leb→le}
-use lib.ListN.{length, getD}
+use lib.Dec.{T, eqb, eqb→eq, leb, leb→le, lit≤}
 use Rattle.rules.specs.Tests.{_and_, every}
-use Rattle.rules.specs.Links.{k, s, first, capacity, start, offset, most, words, LinkNumber, InLink}
+use Rattle.rules.specs.Links.{k, s, first, capacity, start, offset, most, mostLinks, allBuffers, widest, bookWords, LinkNumber, InLink}
 
 -- ---- tests
 
@@ -30,137 +28,90 @@ every-at test lo (suc n) t j low high =
     go here (yes e) further = rw e here
     go here (no e) further = further (omega arith) (omega arith)
 
--- a column of the links' table, whose place n has what the rule says of link n
-column : (f : ℕ → ℕ) (xs : List ℕ) → T (every (λ n. eqb (getD xs n 0) (f n)) 1 (length xs - 1)) → (n : ℕ) → T (leb 1 n) → T (leb (suc n) (length xs))
-    → {i : ℕ} → i ≡ n → getD xs n 0 ≡ f i
-column f xs t n low high {i} e =
-    let lo = leb→le 1 n low in
-    let hi = leb→le (suc n) (length xs) high in
-    eqb→eq (getD xs n 0) (f n) (every-at (λ n. eqb (getD xs n 0) (f n)) 1 (length xs - 1) t n lo (omega arith)) ∙ ap f (sym e)
-
-module _ (n : ℕ) (low : T (leb 1 n)) {i : ℕ} (e : i ≡ n) where
-  pub k-at : T (leb (suc n) 5) → getD (0 ∷ 2 ∷ 4 ∷ 8 ∷ 16 ∷ []) n 0 ≡ k i
-  unfolding every k
-  k-at high = column k (0 ∷ 2 ∷ 4 ∷ 8 ∷ 16 ∷ []) tt n low high e
-
-  pub s-at : T (leb (suc n) 5) → getD (0 ∷ 8 ∷ 24 ∷ 120 ∷ 1080 ∷ []) n 0 ≡ s i
-  unfolding every s
-  s-at high = column s (0 ∷ 8 ∷ 24 ∷ 120 ∷ 1080 ∷ []) tt n low high e
-
-  pub first-at : T (leb (suc n) 6) → getD (0 ∷ 1 ∷ 5 ∷ 13 ∷ 29 ∷ 61 ∷ []) n 0 ≡ first i
-  unfolding every first
-  first-at high = column first (0 ∷ 1 ∷ 5 ∷ 13 ∷ 29 ∷ 61 ∷ []) tt n low high e
-
-  pub most-at : T (leb (suc n) 5) → getD (0 ∷ 16 ∷ 96 ∷ 960 ∷ 17280 ∷ []) n 0 ≡ most i
-  unfolding every most
-  most-at high = column most (0 ∷ 16 ∷ 96 ∷ 960 ∷ 17280 ∷ []) tt n low high e
-
-  pub words-at : T (leb (suc n) 5) → getD (0 ∷ 296 ∷ 536 ∷ 2628 ∷ 28436 ∷ []) n 0 ≡ words i
-  unfolding every words
-  words-at high = column words (0 ∷ 296 ∷ 536 ∷ 2628 ∷ 28436 ∷ []) tt n low high e
-
 -- a test that computes to true at every link that there is holds of each
-pub each-link : (test : ℕ → Bool) → T (every test 1 4) → {i : ℕ} → LinkNumber i → T (test i)
-each-link test t {i} h = every-at test 1 4 t i (h .low) (omega arith)
+pub each-link : (test : ℕ → Bool) → T (every test 1 mostLinks) → {i : ℕ} → LinkNumber i → T (test i)
+each-link test t {i} h = every-at test 1 mostLinks t i (h .low) (omega (arith, h .high))
+
+-- of any size f: no link has more than so many
+pub at-most : (f : ℕ → ℕ) (m : ℕ) → T (every (λ i. leb (f i) m) 1 mostLinks) → {i : ℕ} → LinkNumber i → f i ≤ m
+at-most f m t {i} h = leb→le (f i) m (each-link (λ i. leb (f i) m) t h)
+
+-- none has fewer
+pub at-least : (f : ℕ → ℕ) (m : ℕ) → T (every (λ i. leb m (f i)) 1 mostLinks) → {i : ℕ} → LinkNumber i → m ≤ f i
+at-least f m t {i} h = leb→le m (f i) (each-link (λ i. leb m (f i)) t h)
+
+-- and the code's arm for link n computes it
+pub at-link : (f : ℕ → ℕ) (n i : ℕ) → i ≡ n → f n ≡ f i
+at-link f n i e = ap f (sym e)
 
 -- ---- levels: buffers of one size, one behind the other
 
-pub record Level : Type 0 where
-  pub link : ℕ
-  pub low : ℕ
-  pub many : ℕ
-  pub size : ℕ
-  pub begins : ℕ
+-- buffer j of link i has the size of buffer `low`, and lies behind it by so many of them
+unfoldable pub alike : ℕ → ℕ → ℕ → Bool
+unfolding capacity start offset
+alike i low j = eqb (capacity i low) (capacity i j) and eqb (start i + offset i low + capacity i low * (j - low)) (start i + offset i j)
 
-abbrev level : ℕ → ℕ → ℕ → ℕ → ℕ → Level
-level link low many size begins = record { link = link; low = low; many = many; size = size; begins = begins }
+module _ (i low n : ℕ) (known : T (every (alike i low) low n)) {i′ j : ℕ} (h : InLink i′ j) (of : i′ ≡ i) (from : low ≤ j) (to : j < low + n) where
+  here : T (alike i low j)
+  here = every-at (alike i low) low n known j from to
 
-unfoldable pub levelTable : List Level
-levelTable =
-    level 1 0 4 8 8
-    ∷ level 2 0 2 64 40
-    ∷ level 2 2 2 8 168
-    ∷ level 2 4 4 24 184
-    ∷ level 3 0 2 512 280
-    ∷ level 3 2 2 8 1304
-    ∷ level 3 4 4 23 1320
-    ∷ level 3 8 8 120 1412
-    ∷ level 4 0 2 4096 2372
-    ∷ level 4 2 2 8 10564
-    ∷ level 4 4 4 64 10580
-    ∷ level 4 8 8 8 10836
-    ∷ level 4 16 16 1080 10900
-    ∷ []
+  pub size-at : capacity i low ≡ capacity i′ j
+  unfolding alike
+  size-at = rw of (eqb→eq (capacity i low) (capacity i j) (and-one (eqb (capacity i low) (capacity i j)) (eqb (start i + offset i low + capacity i low * (j - low)) (start i + offset i j)) here))
 
-unfoldable right : Level → ℕ → Bool
-right l j = eqb (l .size) (capacity (l .link) j) and eqb (l .begins + l .size * (j - l .low)) (start (l .link) + offset (l .link) j)
-
-unfoldable allRight : List Level → Bool
-unfolding right every
-allRight [] = true
-allRight (l ∷ ls) = every (right l) (l .low) (l .many) and allRight ls
-
-table-right : T (allRight levelTable)
-unfolding allRight levelTable capacity start offset
-table-right = tt
-
-row-right : (ls : List Level) (d : Level) → T (allRight ls) → (r : ℕ) → r < length ls → let l = getD ls r d in T (every (right l) (l .low) (l .many))
-unfolding allRight
-row-right [] d t r h = absurd (omega arith)
-row-right (l ∷ ls) d t zero h = and-one (every (right l) (l .low) (l .many)) (allRight ls) t
-row-right (l ∷ ls) d t (suc r) h = row-right ls d (and-two (every (right l) (l .low) (l .many)) (allRight ls) t) r (omega arith)
-
-unfoldable pub levelAt : ℕ → Level
-unfolding levelTable
-levelAt r = getD levelTable r (level 0 0 0 0 0)
-
-module _ (r : ℕ) (known : T (leb (suc r) 13)) {i j : ℕ} (of : i ≡ levelAt r .link) (low : levelAt r .low ≤ j) (high : j < levelAt r .low + levelAt r .many) where
-  at : T (right (levelAt r) j)
-  unfolding levelAt levelTable
-  at = every-at (right (levelAt r)) (levelAt r .low) (levelAt r .many) (row-right levelTable (level 0 0 0 0 0) table-right r (leb→le (suc r) 13 known)) j low high
-
-  pub size-at : levelAt r .size ≡ capacity i j
-  unfolding right
-  size-at =
-      let l = levelAt r in
-      rw of (eqb→eq (l .size) (capacity (l .link) j) (and-one (eqb (l .size) (capacity (l .link) j)) (eqb (l .begins + l .size * (j - l .low)) (start (l .link) + offset (l .link) j)) at))
-
-  pub slot-at : levelAt r .begins + levelAt r .size * (j - levelAt r .low) ≡ start i + offset i j
-  unfolding right
+  pub slot-at : start i + offset i low + capacity i low * (j - low) ≡ start i′ + offset i′ j
+  unfolding alike
   slot-at =
-      let l = levelAt r in
-      rw of (eqb→eq (l .begins + l .size * (j - l .low)) (start (l .link) + offset (l .link) j) (and-two (eqb (l .size) (capacity (l .link) j)) (eqb (l .begins + l .size * (j - l .low)) (start (l .link) + offset (l .link) j)) at))
+      rw of (eqb→eq (start i + offset i low + capacity i low * (j - low)) (start i + offset i j) (and-two (eqb (capacity i low) (capacity i j)) (eqb (start i + offset i low + capacity i low * (j - low)) (start i + offset i j)) here))
 
 -- the same for a level that begins with buffer 0
-pub slot-from : (r : ℕ) → T (leb (suc r) 13) → levelAt r .low ≡ 0 → {i j : ℕ} → i ≡ levelAt r .link → j < levelAt r .many → levelAt r .begins + levelAt r .size * j ≡ start i + offset i j
-slot-from r known none {i} {j} of high =
-    let e : j - levelAt r .low ≡ j = omega arith in
-    let here : levelAt r .begins + levelAt r .size * (j - levelAt r .low) ≡ start i + offset i j = slot-at r known of (omega arith) (omega arith) in
-    rw e at here
+pub slot-from : (i n : ℕ) → T (every (alike i 0) 0 n) → {i′ j : ℕ} → InLink i′ j → i′ ≡ i → j < n → start i + offset i 0 + capacity i 0 * j ≡ start i′ + offset i′ j
+slot-from i n known {i′} {j} h of to =
+    let e : j - 0 ≡ j = omega arith in
+    let at : start i + offset i 0 + capacity i 0 * (j - 0) ≡ start i′ + offset i′ j = slot-at i 0 n known h of (omega arith) (omega arith) in
+    rw e at at
+
+-- the numbers of link n's buffers end at 2k
+pub below-end : (n : ℕ) {i j : ℕ} → InLink i j → i ≡ n → j < 2 * k n
+below-end n {i} {j} h e = subst (λ i. j < 2 * k i) e (h .below)
 
 -- ---- bounds of every link
 
-module _ {i : ℕ} (h : LinkNumber i) where
-  pub k-least : 2 ≤ k i
-  unfolding every k
-  k-least = leb→le 2 (k i) (each-link (λ i. leb 2 (k i)) tt h)
+-- each has two S at least
+pub k-least : {i : ℕ} → LinkNumber i → 2 ≤ k i
+unfolding every k
+k-least = at-least k 2 tt
 
-  pub k-most : k i ≤ 16
-  unfolding every k
-  k-most = leb→le (k i) 16 (each-link (λ i. leb (k i) 16) tt h)
+-- none is wider than the last
+pub k-most : {i : ℕ} → LinkNumber i → 2 * k i ≤ widest
+unfolding every widest
+k-most = at-most (λ i. 2 * k i) widest tt
 
-  pub s-most : s i ≤ 1080
-  unfolding every s
-  s-most = leb→le (s i) 1080 (each-link (λ i. leb (s i) 1080) tt h)
+-- each buffer of a link has a word in the book
+pub k-in-book : {i : ℕ} → LinkNumber i → 2 * k i ≤ bookWords
+unfolding every k
+k-in-book = at-most (λ i. 2 * k i) bookWords tt
 
-  pub first-most : first i + 2 * k i ≤ 61
-  unfolding every first k
-  first-most = leb→le (first i + 2 * k i) 61 (each-link (λ i. leb (first i + 2 * k i) 61) tt h)
+-- an S's count has 16 bits
+pub s-most : {i : ℕ} → LinkNumber i → s i ≤ 65535
+unfolding every s
+s-most = at-most s 65535 tt
+
+-- and a queue's entries 20
+pub most-few : {i : ℕ} → LinkNumber i → most i < 2 ^ 20
+unfolding every most
+most-few = at-most (λ i. suc (most i)) (2 ^ 20) tt
+
+-- no number is above those of the last link's buffers
+pub first-most : {i : ℕ} → LinkNumber i → first i + 2 * k i ≤ allBuffers
+unfolding every first k allBuffers
+first-most = at-most (λ i. first i + 2 * k i) allBuffers tt
+
+-- all of them have their words there
+pub in-book : 8 + allBuffers ≤ bookWords
+unfolding allBuffers
+in-book = lit≤ tt
 
 -- a buffer of a link
 pub in-link : {i j : ℕ} → LinkNumber i → j < 2 * k i → InLink i j
-in-link h below = record { link = h; below = below; few = omega (arith, k-most h) }
-
--- the numbers of link n's buffers end at 2k
-pub below-end : (n : ℕ) → T (leb 1 n) → T (leb (suc n) 5) → {i j : ℕ} → i ≡ n → InLink i j → j < 2 * getD (0 ∷ 2 ∷ 4 ∷ 8 ∷ 16 ∷ []) n 0
-below-end n low high e h = rw (k-at n low e high) (h .below)
+in-link h below = record { link = h; below = below; few = omega (arith, k-in-book h) }

@@ -1,11 +1,11 @@
 -- The book, and the book rules.
-use Prim.Native.Nat.{ℕ, zero, suc, _+_, _-_, _*_, _≤_}
+use Prim.Native.Nat.{ℕ, zero, suc, _+_, _-_, _*_}
 use mathlib.Core.Bool.{Bool, true, false}
-use mathlib.Core.List.{List, [], _∷_, map}
+use mathlib.Core.List.{List, map}
 use lib.ListN.{length, getD, replicate}
-use lib.Dec.{leb, ltb, eqb}
+use lib.Dec.{leb, eqb}
 use Rattle.rules.specs.Links.{s, k, first, capacity, bufferCount, mostLinks, most, numberOfS}
-use Rattle.rules.specs.Tree.{Buffers, Tree, exhausted, buffer, merger, treeOf}
+use Rattle.rules.specs.Tree.{Tree, exhausted, buffer, merger, treeOf}
 use Rattle.rules.specs.Queue.{Queue}
 use Rattle.rules.specs.Tests.{_and_, _or_, _implies_, every}
 
@@ -39,7 +39,6 @@ module _ (b : Book) where
 
 -- "link number 1 to 4"
 unfoldable pub isLinkNumber : ℕ → Bool
-unfolding mostLinks
 isLinkNumber l = leb 1 l and leb l mostLinks
 
 module _ (b : Book) where

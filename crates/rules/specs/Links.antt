@@ -4,7 +4,7 @@ use mathlib.Core.Path.{_≡_, refl}
 use Prim.Native.Nat.{ℕ, zero, suc, _+_, _-_, _*_, _^_, _/_, _≤_, _<_}
 use mathlib.Core.Bool.{Bool, true, false}
 use mathlib.Core.List.{List, [], _∷_, _++_, map}
-use lib.ListN.{length, getD}
+use lib.ListN.{getD}
 use lib.Dec.{leb, ltb, eqb}
 
 -- the least number from n on that passes the test, of so many tried
@@ -159,32 +159,45 @@ unfolding first
 bufferCount links = first (suc links)
 
 -- "A queue of L links (1 to 4) holds at most H = k(L) x s(L) entries."
-unfoldable pub mostLinks : ℕ
+abbrev pub mostLinks : ℕ
 mostLinks = 4
 
 unfoldable pub most : ℕ → ℕ
 unfolding k s
 most links = k links * s links
 
+-- the buffers of a queue of the most links, and of its last link, which has the most of them
+unfoldable pub allBuffers : ℕ
+unfolding bufferCount
+allBuffers = bufferCount mostLinks
+
+unfoldable pub widest : ℕ
+unfolding k
+widest = 2 * k mostLinks
+
 -- "The first 256 words are the book"
-unfoldable pub bookWords : ℕ
+abbrev pub bookWords : ℕ
 bookWords = 256
+
+-- places for the numbers of a path
+abbrev pub pathRoom : ℕ
+pathRoom = 16
 
 -- the words that a queue of so many links needs
 unfoldable pub words : ℕ → ℕ
-unfolding bookWords start
+unfolding start
 words links = bookWords + start (suc links)
 
 -- a link that there is; a buffer of it
 pub record LinkNumber (i : ℕ) : Type 0 where
   pub low : 1 ≤ i
-  pub high : i ≤ 4
+  pub high : i ≤ mostLinks
 
--- `few` follows from the others, by `in-link`, and stands here for the code's sums
+-- `few` follows from the others, by `in-link`, and stands here for the code's sums: each buffer has a word in the book
 pub record InLink (i j : ℕ) : Type 0 where
   pub link : LinkNumber i
   pub below : j < 2 * k i
-  pub few : j < 32
+  pub few : j < bookWords
 
 -- ---- the tables of document 01, computed
 
@@ -227,7 +240,7 @@ unfoldable pub lengths : ℕ → List ℕ
 unfolding start words most
 lengths links = start (suc links) ∷ words links ∷ most links ∷ []
 
-pub lengthTable : map lengths (from 1 4) ≡ (40 ∷ 296 ∷ 16 ∷ []) ∷ (280 ∷ 536 ∷ 96 ∷ []) ∷ (2372 ∷ 2628 ∷ 960 ∷ []) ∷ (28180 ∷ 28436 ∷ 17280 ∷ []) ∷ []
+pub lengthTable : map lengths (from 1 mostLinks) ≡ (40 ∷ 296 ∷ 16 ∷ []) ∷ (280 ∷ 536 ∷ 96 ∷ []) ∷ (2372 ∷ 2628 ∷ 960 ∷ []) ∷ (28180 ∷ 28436 ∷ 17280 ∷ []) ∷ []
 unfolding lengths from
 lengthTable = refl
 

@@ -1,8 +1,9 @@
 -- A queue: its number of links, its counters and every buffer's entries.
 use Prim.Native.Nat.{ℕ, zero, suc, _+_, _-_}
-use mathlib.Core.List.{List, [], _∷_}
+use mathlib.Core.List.{List, []}
 use lib.ListN.{length, getD, replicate}
-use Rattle.rules.specs.Entries.{wholeWord}
+use Rattle.rules.specs.declared.Rule.{Rule}
+use Rattle.rules.specs.Entries.{theRule, keyBy}
 use Rattle.rules.specs.Links.{bufferCount}
 use Rattle.rules.specs.Tree.{Buffers}
 
@@ -11,10 +12,14 @@ pub record Queue : Type 0 where
   pub counters : List ℕ
   pub buffers : Buffers
 
--- the key by which the queue compares entries
+-- the rule by which the queue orders entries, and its key
+unfoldable pub ruleOf : Queue → Rule
+unfolding theRule
+ruleOf q = theRule
+
 unfoldable pub keyOf : Queue → ℕ → ℕ
-unfolding wholeWord
-keyOf q = wholeWord
+unfolding keyBy ruleOf
+keyOf q = keyBy (ruleOf q)
 
 -- the counter c(i), i from 1 on
 unfoldable pub counter : Queue → ℕ → ℕ

@@ -2,7 +2,7 @@
 ghost use mathlib.Core.Path.{_≡_};
 ghost use Prim.Native.Nat.{_+_, _≤_, _<_};
 ghost use Rattle.rules.specs.Answers.{numberOf};
-ghost use Rattle.rules.specs.Links.{k, s, first, capacity, start, offset, most, words, LinkNumber, InLink};
+ghost use Rattle.rules.specs.Links.{k, s, first, capacity, start, offset, most, mostLinks, words, LinkNumber, InLink};
 
 // A link, by its number from 1 on. Whoever needs a size asks here.
 pub struct Link {
@@ -17,6 +17,16 @@ impl Link {
     pub const BOOK: usize = 256;
 
     pub const INSERTION: usize = 8;
+
+    // The buffers of the link that has the most, and places for the numbers of a path.
+    pub const WIDEST: usize = 32;
+
+    pub const PATH: usize = 16;
+
+    // The words and the work area of three links, for which the program keeps room.
+    pub const PROGRAM_WORDS: usize = 2628;
+
+    pub const PROGRAM_WORK: usize = 960;
 
     pub fn at(i: usize) -> Self
         ensures { λ r. ⌜ r .i ≡ i ⌝ }
@@ -54,7 +64,7 @@ impl Link {
 
     // The number of the link's A among all buffers; one past the last link it is how many buffers there are.
     pub fn first(self) -> usize
-        requires { ⌜ (1 ≤ self .i) × (self .i ≤ 5) ⌝ }
+        requires { ⌜ (1 ≤ self .i) × (self .i ≤ mostLinks + 1) ⌝ }
         ensures { λ r. ⌜ r ≡ first (self .i) ⌝ }
     {
         let i = self.i;
@@ -153,6 +163,9 @@ impl Link {
         }
     }
 }
+
+// By what a queue orders its entries. There is one order today, so that nothing is to be said.
+pub struct Rule {}
 
 // What a call answers.
 pub enum Answer {
