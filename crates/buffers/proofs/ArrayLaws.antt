@@ -1,18 +1,19 @@
 -- What the words hold. A change that concerns one buffer leaves every other buffer's entries, the counters and all words past the stated length alone.
-use mathlib.Core.Path.{_≡_, refl, sym, ap, _∙_, subst}
+use mathlib.Core.Path.{_≡_, refl, sym, ap, _∙_}
 use mathlib.Core.Logic.{_≢_, inl, inr}
 use native.Mathlib.Decide.{ℕ-discrete}
-use Prim.Native.Nat.{ℕ, zero, suc, _+_, _*_, _-_, _/_, _%_, _≤_, _<_, min}
+use Prim.Native.Nat.{ℕ, zero, suc, _+_, _-_, _≤_, _<_}
 use native.Mathlib.Nat.{add-zero, add-suc, suc-add, zero-add, le-of-suc-le-suc, not-suc-le-zero}
 use native.Mathlib.Omega.{arith}
-use mathlib.Core.List.{List, [], _∷_, _++_, map}
-use lib.ListN.{length, getD, take, drop, set, length-set, length-take, length-drop, length-append, List·getD-append}
-use lib.Seq.{getD-take, getD-drop, ext-getD, getD-set-same, getD-set-other, drop-drop, take-take}
-use Rattle.rules.specs.Links.{from, bufferCount, words, LinkNumber, bookWords}
+use mathlib.Core.List.{List, [], map}
+use lib.ListN.{length, getD, take, drop, set, length-set, length-take, length-drop}
+use lib.Seq.{getD-take, getD-drop, ext-getD, getD-set-same, getD-set-other}
+use Rattle.rules.specs.Links.{from, bufferCount, allBuffers, bookWords}
+use Rattle.rules.proofs.Table.{in-book}
 use Rattle.buffers.specs.Slots.{capacityOf, base}
-use Rattle.buffers.specs.Format.{countIn, startIn, markIn, linksIn, counterIn, wordOf, countOf, startOf, markOf, many, headOf, bufferOf, buffersOf}
+use Rattle.buffers.specs.Format.{countIn, startIn, linksIn, counterIn, wordOf, countOf, startOf, many, headOf, bufferOf, buffersOf}
 use Rattle.buffers.specs.Post.{Inside, Has, Only, Now, Unused, Kept}
-use Rattle.buffers.proofs.SlotLaws.{apart, behind-book, not-both, in-words, few, small-capacity}
+use Rattle.buffers.proofs.SlotLaws.{behind-book, not-both, in-words, no-more, few, small-capacity}
 
 -- ---- one value for each number
 
@@ -39,10 +40,12 @@ buffers-at ws n h = each-at (bufferOf ws) 0 (many ws) n [] h ∙ ap (bufferOf ws
 
 pub has : (ws : List ℕ) (n : ℕ) → Inside ws → n < many ws → Has ws n
 has ws n array lt =
-    let small : n < 61 = omega (arith, few (array .link)) in
+    let numbered : n < allBuffers = omega (arith, no-more (array .link)) in
+    let small : 8 + n < bookWords = omega (arith, in-book) in
     record {
       array = array;
       below = lt;
+      numbered = numbered;
       small = small;
       behind = behind-book n;
       room = small-capacity n small;
@@ -147,12 +150,10 @@ unused-behind i low small (inr u) = omega (arith, u .0)
 
 -- and inside the book
 pub unused-within : {links p : ℕ} → Unused links p → p < bookWords
-unfolding bookWords
 unused-within (inl u) = omega (arith, u .1)
 unused-within (inr u) = u .1
 
 pub only-kept : (ws ws′ : List ℕ) (n : ℕ) → Has ws n → Only ws ws′ n → Kept ws ws′
-unfolding bookWords
 only-kept ws ws′ n h only = record {
   long = only .long;
   front = λ p lt. only .outside p (omega arith) (omega (arith, h .behind));

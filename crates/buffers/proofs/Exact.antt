@@ -14,19 +14,19 @@ use Rattle.rules.specs.Tests.{_and_, _or_}
 use Rattle.rules.specs.Links.{s, k, first, capacity, numberOfS, bufferCount, most, mostLinks, words, LinkNumber}
 use Rattle.rules.specs.Tree.{Tree, exhausted, buffer, merger, kMerger, linksFrom, treeOf}
 use Rattle.rules.specs.Book.{Book, count, startPlace, marked, c, together, isLinkNumber, sound}
-use Rattle.rules.proofs.Table.{and-one as T-one, and-two as T-two, k-least, k-most, s-most, in-link}
+use Rattle.rules.proofs.Table.{and-one as T-one, and-two as T-two, k-least, in-link}
 use Rattle.buffers.specs.Slots.{capacityOf}
 use Rattle.buffers.specs.Format.{linksIn, counterIn, wordOf, countOf, startOf, markOf, many, bookOf}
 use Rattle.buffers.specs.Rules.{Part, whole, inOne, inTwo, heldUnder, topMarked, LinkRules, Rules}
-use Rattle.buffers.specs.Weights.{weigh, countsFrom, weight, room, linksWeight, weighsRight, heldIfSound}
+use Rattle.buffers.specs.Weights.{broken, weigh, countsFrom, weight, room, linksWeight, weighsRight, heldIfSound}
 use Rattle.buffers.specs.Post.{Inside}
 use Rattle.buffers.proofs.SlotLaws.{capacity-is}
 use Rattle.buffers.proofs.ArrayLaws.{each-at}
 use Rattle.buffers.proofs.SoundLaws.{weigh-right, weigh-kept, Kept}
-use Rattle.buffers.proofs.LinkWeights.{counts-none, none-counts, room-none, room-many, room-held, room-right, link-broken, link-right, product}
+use Rattle.buffers.proofs.LinkWeights.{counts-none, none-counts, room-none, room-many, room-held, room-right, link-broken, link-right, most-small, used-few}
 use Rattle.buffers.proofs.RuleLaws.{both, link-number, is-link-number, sound-rules, rules-sound}
 use Rattle.buffers.proofs.RuleLaws as rule
-use Rattle.buffers.proofs.TreeLaws.{merger-held, all-held, numbered, occurs, tree-numbered, merger-numbered, tree-occurs, number-1, link-within, first-least, most-small, capacity-I, each-buffer}
+use Rattle.buffers.proofs.TreeLaws.{merger-held, all-held, numbered, occurs, tree-numbered, merger-numbered, tree-occurs, number-1, link-within, first-least, capacity-I, each-buffer}
 
 -- ---- what the book of an array says
 
@@ -78,7 +78,7 @@ module _ (ws : List ℕ) where
     size-is : size ≡ capacityOf n
     size-is = eqb→eq size (capacityOf n) (T-two (ltb n (many ws)) (eqb size (capacityOf n)) here)
 
-    buffer-kept : weight ws (buffer n size) < 65536 → TreeKept (buffer n size)
+    buffer-kept : weight ws (buffer n size) < broken → TreeKept (buffer n size)
     unfolding occurs weight heldUnder topMarked
     buffer-kept less = record {
       held = omega (arith, count-is ws n number-below, kept .is);
@@ -92,7 +92,7 @@ module _ (ws : List ℕ) where
         none : (t′ : Tree) → Part t′ (buffer n size) → topMarked b t′ ≡ true → heldUnder b t′ ≡ 0
         none t′ whole m = let z = kept .mark (marked-is n number-below m) in omega (arith, count-is ws n number-below)
 
-    merger-kept : weight ws (merger n size one two) < 65536 → (weight ws one < 65536 → TreeKept one) → (weight ws two < 65536 → TreeKept two) → TreeKept (merger n size one two)
+    merger-kept : weight ws (merger n size one two) < broken → (weight ws one < broken → TreeKept one) → (weight ws two < broken → TreeKept two) → TreeKept (merger n size one two)
     unfolding occurs weight heldUnder topMarked
     merger-kept less one-kept two-kept = record { held = held; fits = fits; marks = none }
       where
@@ -122,7 +122,7 @@ module _ (ws : List ℕ) where
   unfolding heldUnder
   nothing-marked t′ whole m = refl
 
-  tree-kept : (t : Tree) → T (numbered (many ws) t) → weight ws t < 65536 → TreeKept t
+  tree-kept : (t : Tree) → T (numbered (many ws) t) → weight ws t < broken → TreeKept t
   unfolding numbered occurs weight heldUnder
   tree-kept exhausted h less = record { held = refl; fits = λ n z. absurd z; marks = nothing-marked }
   tree-kept (buffer n size) h less = buffer-kept n size exhausted exhausted h less
@@ -164,7 +164,7 @@ module _ (ws : List ℕ) where
     pub is : weight ws (linksFrom i n) ≡ linksWeight ws i n
     pub each : (m : ℕ) → i ≤ m → m < i + n → weight ws (kMerger m) < room ws m
 
-  link-kept : (i n : ℕ) → linksWeight ws i (suc n) < 65536 → (linksWeight ws (suc i) n < 65536 → LinksKept (suc i) n) → LinksKept i (suc n)
+  link-kept : (i n : ℕ) → linksWeight ws i (suc n) < broken → (linksWeight ws (suc i) n < broken → LinksKept (suc i) n) → LinksKept i (suc n)
   unfolding linksWeight linksFrom weight
   link-kept i n less further = go (decLt (weight ws (kMerger i)) (room ws i))
     where
@@ -183,7 +183,7 @@ module _ (ws : List ℕ) where
           at m low high (yes q) lt rest = rw q lt
           at m low high (no q) lt rest = rest .each m (omega arith) (omega arith)
 
-  links-kept : (i n : ℕ) → linksWeight ws i n < 65536 → LinksKept i n
+  links-kept : (i n : ℕ) → linksWeight ws i n < broken → LinksKept i n
   unfolding linksWeight linksFrom weight
   links-kept i zero less = record { is = refl; each = λ m low high. absurd (omega arith) }
   links-kept i (suc n) less = link-kept i n less (links-kept (suc i) n)
@@ -266,7 +266,7 @@ module _ (ws : List ℕ) where
       lower-is : heldUnder b (kMerger i) ≡ weight ws (kMerger i)
       lower-is =
           tree-kept (kMerger i) (merger-numbered number low high)
-          (omega (arith, all-kept .each i low (omega arith), room-i .is, product (counterIn ws i - 1) (s i) (omega (arith, room-i .few, k-most number-i)) (s-most number-i))) .held
+          (omega (arith, all-kept .each i low (omega arith), room-i .is, used-few number-i (counterIn ws i - 1) (omega (arith, room-i .few)))) .held
 
       rules-of-link : LinkRules b i
       unfolding numberOfS
@@ -415,13 +415,13 @@ module _ (ws : List ℕ) where
 
   pub no-links : linksIn ws < 1 → weighsRight ws ≡ false
   unfolding weighsRight isLinkNumber
-  no-links h = ap (λ t. (t and leb (linksIn ws) 4) and lastTest (weigh (wordOf ws 0) 8 0)) (lt-leb 1 (linksIn ws) h)
+  no-links h = ap (λ t. (t and leb (linksIn ws) mostLinks) and lastTest (weigh (wordOf ws 0) 8 0)) (lt-leb 1 (linksIn ws) h)
 
-  pub many-links : 1 ≤ linksIn ws → 4 < linksIn ws → weighsRight ws ≡ false
-  unfolding weighsRight isLinkNumber mostLinks
+  pub many-links : 1 ≤ linksIn ws → mostLinks < linksIn ws → weighsRight ws ≡ false
+  unfolding weighsRight isLinkNumber
   many-links one h =
-      ap (λ t. (t and leb (linksIn ws) 4) and lastTest (weigh (wordOf ws 0) 8 0)) (le-leb 1 (linksIn ws) one)
-      ∙ ap (λ t. t and lastTest (weigh (wordOf ws 0) 8 0)) (lt-leb (linksIn ws) 4 h)
+      ap (λ t. (t and leb (linksIn ws) mostLinks) and lastTest (weigh (wordOf ws 0) 8 0)) (le-leb 1 (linksIn ws) one)
+      ∙ ap (λ t. t and lastTest (weigh (wordOf ws 0) 8 0)) (lt-leb (linksIn ws) mostLinks h)
 
   module _ (number : LinkNumber (linksIn ws)) (inserted : ℕ) (is : inserted ≡ weigh (wordOf ws 0) 8 0) where
     numbered-links : weighsRight ws ≡ lastTest inserted
@@ -459,11 +459,11 @@ module _ (ws : List ℕ) where
   abbrev all : ℕ
   all = together (bookOf ws) 0 (bufferCount (bookOf ws .links))
 
-  handed : (t : Bool) → sound (bookOf ws) ≡ t → heldIfSound (bookOf ws) ≡ elim t [ true ↦ all | false ↦ 65536 ]
+  handed : (t : Bool) → sound (bookOf ws) ≡ t → heldIfSound (bookOf ws) ≡ elim t [ true ↦ all | false ↦ broken ]
   unfolding heldIfSound
-  handed t e = ap (λ t. elim t [ true ↦ all | false ↦ 65536 ]) e
+  handed t e = ap (λ t. elim t [ true ↦ all | false ↦ broken ]) e
 
-  pub broken-weighs : weighsRight ws ≡ false → 65536 ≡ heldIfSound (bookOf ws)
+  pub broken-weighs : weighsRight ws ≡ false → broken ≡ heldIfSound (bookOf ws)
   broken-weighs wrong = sym (handed false (sym (exact ws) ∙ wrong))
 
   pub held-weighs : weighsRight ws ≡ true → (inserted held : ℕ) → inserted ≡ weigh (wordOf ws 0) 8 0 → held ≡ linksWeight ws 1 (linksIn ws) → inserted + held ≡ heldIfSound (bookOf ws)
@@ -471,7 +471,7 @@ module _ (ws : List ℕ) where
       let is : all ≡ weigh (wordOf ws 0) 8 0 + linksWeight ws 1 (linksIn ws) = subst (λ l. together (bookOf ws) 0 (bufferCount l) ≡ weigh (wordOf ws 0) 8 0 + linksWeight ws 1 (linksIn ws)) (sym (links-is ws)) (weights-held ws right) in
       omega (arith, i, h, is, handed true (sym (exact ws) ∙ right))
 
-  all-small : sound (bookOf ws) ≡ true → all < 65536
+  all-small : sound (bookOf ws) ≡ true → all < broken
   all-small right = let r = sound-rules (bookOf ws) right in omega (arith, r .atMostH, most-small (r .linkNumber))
 
   -- n is what it hands back
@@ -479,23 +479,23 @@ module _ (ws : List ℕ) where
     pub held-all : sound (bookOf ws) ≡ true → n ≡ together (bookOf ws) 0 (many ws)
     held-all right = n-is ∙ handed true right ∙ ap (λ l. together (bookOf ws) 0 (bufferCount l)) (links-is ws)
 
-    pub below-broken : n < 65536 → sound (bookOf ws) ≡ true
+    pub below-broken : n < broken → sound (bookOf ws) ≡ true
     below-broken less = go (sound (bookOf ws)) refl
       where
         go : (t : Bool) → sound (bookOf ws) ≡ t → t ≡ true
         go true e = refl
         go false e = absurd (omega (arith, n-is, handed false e))
 
-    pub not-below : 65536 ≤ n → sound (bookOf ws) ≡ false
+    pub not-below : broken ≤ n → sound (bookOf ws) ≡ false
     not-below more = go (sound (bookOf ws)) refl
       where
         go : (t : Bool) → sound (bookOf ws) ≡ t → t ≡ false
         go true e = absurd (omega (arith, n-is, handed true e, all-small e))
         go false e = refl
 
-    pub below-exactly : ltb n 65536 ≡ sound (bookOf ws)
-    below-exactly = go (decLt n 65536)
+    pub below-exactly : ltb n broken ≡ sound (bookOf ws)
+    below-exactly = go (decLt n broken)
       where
-        go : Dec (n < 65536) → ltb n 65536 ≡ sound (bookOf ws)
-        go (yes less) = le-leb (suc n) 65536 (omega arith) ∙ sym (below-broken less)
-        go (no more) = lt-leb (suc n) 65536 (omega arith) ∙ sym (not-below (omega arith))
+        go : Dec (n < broken) → ltb n broken ≡ sound (bookOf ws)
+        go (yes less) = le-leb (suc n) broken (omega arith) ∙ sym (below-broken less)
+        go (no more) = lt-leb (suc n) broken (omega arith) ∙ sym (not-below (omega arith))

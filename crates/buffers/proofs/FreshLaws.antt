@@ -1,14 +1,13 @@
 -- What setup writes: a stretch of equal words, and the fresh book.
-use Prim.Native.Nat.{ℕ, zero, suc, _+_, _≤_, _<_}
-use mathlib.Core.Path.{_≡_, refl, sym, ap, _∙_}
+use Prim.Native.Nat.{ℕ, _+_, _≤_, _<_}
+use mathlib.Core.Path.{_≡_, refl, ap, _∙_}
 use mathlib.Core.List.{List}
 use native.Mathlib.Omega.{arith}
 use native.Mathlib.Decide.{ℕ-discrete}
 use native.Mathlib.Numerals.{add-one}
 use lib.ListN.{length, getD, set, length-set}
 use lib.Seq.{getD-set-same, getD-set-other}
-use Rattle.rules.specs.Links.{first, bufferCount, words, LinkNumber}
-use Rattle.buffers.specs.Format.{linksIn, counterIn, wordOf}
+use Rattle.rules.specs.Links.{first, bufferCount, bookWords}
 use Rattle.buffers.proofs.SlotLaws.{words-end, behind-book, few}
 use Rattle.buffers.specs.Fresh.{Written, CanBegin, Begun}
 
@@ -46,7 +45,7 @@ write-all ws ws′ at end w n h z = let e : n ≡ end = omega (arith, z .high) i
 
 module _ (ws : List ℕ) (links : ℕ) (h : CanBegin ws links) where
   -- the book is in the array
-  pub book-in : 256 ≤ length ws
+  pub book-in : bookWords ≤ length ws
   book-in = omega (arith, h .enough, words-end (h .link), behind-book (bufferCount links))
 
   end-is : (i end : ℕ) → i ≡ links + 1 → end ≡ first i → end ≡ bufferCount links
@@ -54,7 +53,7 @@ module _ (ws : List ℕ) (links : ℕ) (h : CanBegin ws links) where
   end-is i end e f = f ∙ ap first (e ∙ add-one links)
 
   -- and so is each buffer's word
-  pub end-in : (i end : ℕ) → i ≡ links + 1 → end ≡ first i → 8 + end ≤ 69
+  pub end-in : (i end : ℕ) → i ≡ links + 1 → end ≡ first i → 8 + end ≤ bookWords
   end-in i end e f = omega (arith, end-is i end e f, few (h .link))
 
   module _ (ws₁ ws₂ : List ℕ) (i end : ℕ) (e : i ≡ links + 1) (f : end ≡ first i) (one : Written (set ws 0 links) ws₁ 1 (links + 1) 1) (two : Written ws₁ ws₂ 8 (8 + end) 0) where

@@ -9,3 +9,4 @@ pub mod Exact
 pub mod FreshLaws
 pub mod CounterLaws
 pub mod AgreeLaws
+pub mod KeyLaws

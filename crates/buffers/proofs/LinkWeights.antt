@@ -3,24 +3,24 @@ use mathlib.Core.Path.{_≡_, refl, sym, ap, subst, _∙_}
 use mathlib.Core.Logic.{⊎-elim}
 use mathlib.Core.Bool.{Bool, true, false}
 use Prim.Native.Nat.{ℕ, zero, suc, _+_, _-_, _*_, _/_, _^_, _≤_, _<_}
-use native.Mathlib.Nat.{mul-le-mul-left, two-pow-succ, one-le-pow, pow-le-pow-right}
+use native.Mathlib.Nat.{mul-le-mul-right, two-pow-succ, one-le-pow, pow-le-pow-right}
 use native.Mathlib.Numerals.{add-one}
 use native.Mathlib.Omega.{arith}
 use native.Mathlib.Decide.{ℕ-discrete, decLt}
 use mathlib.Core.List.{List, [], _∷_}
 use lib.ListN.{length, getD, drop, length-drop, drop-of-length-le}
 use lib.Seq.{drop-cons}
-use lib.Dec.{leb, leb→le, eqb, eqb→eq}
+use lib.Dec.{leb, eqb, eqb→eq, lit≤}
 use borrow.Author.Tests.{eq-eqb, ne-eqb, le-leb, lt-leb, lt-ltb, le-ltb}
 use Rattle.rules.specs.Tests.{_and_, every}
-use Rattle.rules.specs.Links.{s, k, height, levels, first, capacity, LinkNumber, InLink}
+use Rattle.rules.specs.Links.{s, k, height, levels, first, capacity, most, mostLinks, widest, bookWords, LinkNumber, InLink}
 use Rattle.rules.specs.Tree.{perfect, kMerger}
-use Rattle.rules.proofs.Table.{every-at, each-link, k-least, k-most, s-most, first-most, in-link}
+use Rattle.rules.proofs.Table.{every-at, each-link, at-most, k-least, most-few, k-most, s-most, first-most, in-book, in-link}
 use Rattle.buffers.specs.Format.{counterIn, wordOf, countOf}
-use Rattle.buffers.specs.Weights.{weigh, countsFrom, weight, room, linkWeight, linksWeight, nothing, inputs, Wrong, Over, Stretch, Stretched, Level, Levelled, OfLink, Stored, RoomLeft, Merging, Weighed, AllLinks, AllWeighed}
+use Rattle.buffers.specs.Weights.{broken, weigh, countsFrom, weight, room, linkWeight, linksWeight, nothing, inputs, Wrong, Over, Stretch, Stretched, Level, Levelled, OfLink, Stored, RoomLeft, Merging, Weighed, AllLinks, AllWeighed}
 use Rattle.buffers.proofs.SoundLaws.{weigh-most, weigh-least}
 
-pub of-link : (ws below : List ℕ) (i : ℕ) → 256 ≤ length ws → LinkNumber i → length below ≡ 32 → OfLink ws below i
+pub of-link : (ws below : List ℕ) (i : ℕ) → bookWords ≤ length ws → LinkNumber i → length below ≡ widest → OfLink ws below i
 of-link ws below i long number sized = record {
   long = long;
   number = number;
@@ -28,7 +28,7 @@ of-link ws below i long number sized = record {
   some = k-least number;
   few = k-most number;
   part = s-most number;
-  fits = first-most number;
+  fits = omega (arith, first-most number, in-book);
 }
 
 -- ---- counts
@@ -80,18 +80,29 @@ module _ (ws : List ℕ) (i : ℕ) where
   pub room-right : 1 ≤ counterIn ws i → counterIn ws i ≤ k i + 1 → spare ≡ 0 → room ws i ≡ used * s i + 1
   room-right one few none = room-few one few ∙ ap roomFor (eq-eqb spare 0 none)
 
-pub product : (d n : ℕ) → d ≤ 16 → n ≤ 1080 → d * n ≤ 17280
-product d n h g = omega (arith, mul-le-mul-left d g)
+-- no queue holds so many
+pub most-small : {l : ℕ} → LinkNumber l → most l < broken
+most-small = most-few
 
-pub room-most : (ws : List ℕ) {i : ℕ} → LinkNumber i → room ws i ≤ 17281
+-- nor would one of five links
+pub five-links : most 5 < broken
+unfolding most
+five-links = lit≤ tt
+
+-- and no link has so many places in its used S
+pub used-few : {i : ℕ} → LinkNumber i → (d : ℕ) → d ≤ k i → d * s i < broken
+unfolding most
+used-few {i} h d few = omega (arith, mul-le-mul-right (s i) few, most-small h)
+
+pub room-most : (ws : List ℕ) {i : ℕ} → LinkNumber i → room ws i ≤ broken
 room-most ws {i} h = go (decLt (counterIn ws i) 1) (decLt (k i + 1) (counterIn ws i)) (ℕ-discrete (spare ws i) 0)
   where
-    go : Dec (counterIn ws i < 1) → Dec (k i + 1 < counterIn ws i) → Dec (spare ws i ≡ 0) → room ws i ≤ 17281
+    go : Dec (counterIn ws i < 1) → Dec (k i + 1 < counterIn ws i) → Dec (spare ws i ≡ 0) → room ws i ≤ broken
     go (yes z) q r = omega (arith, room-none ws i z)
     go (no z) (yes q) r = omega (arith, room-many ws i (omega arith) q)
     go (no z) (no q) (no r) = omega (arith, room-held ws i (omega arith) (omega arith) r)
     go (no z) (no q) (yes r) =
-        omega (arith, room-right ws i (omega arith) (omega arith) r, product (counterIn ws i - 1) (s i) (omega (arith, k-most h)) (s-most h))
+        omega (arith, room-right ws i (omega arith) (omega arith) r, used-few h (counterIn ws i - 1) (omega arith))
 
 -- ---- the link's levels, from the rule
 
@@ -100,9 +111,9 @@ module _ {i : ℕ} (h : LinkNumber i) where
   unfolding every levels height
   levels-long = eqb→eq (length (levels i)) (height i) (each-link (λ i. eqb (length (levels i)) (height i)) tt h)
 
-  pub height-most : height i ≤ 4
+  pub height-most : height i ≤ 8
   unfolding every height
-  height-most = leb→le (height i) 4 (each-link (λ i. leb (height i) 4) tt h)
+  height-most = at-most height 8 tt h
 
   -- the capacity of a level is that of its first buffer
   pub level-size : (d : ℕ) → d < height i → capacity i (2 ^ d) ≡ getD (levels i) d 0
@@ -118,8 +129,12 @@ k-is i = refl
 
 -- ---- what a merger weighs
 
+-- no link weighs more: of at most eight levels, each buffer as much as a broken one
+abbrev linkHeavy : ℕ
+linkHeavy = broken * 2 ^ 9
+
 module _ (ws : List ℕ) (a size : ℕ) where
-  weight-most : (cs : List ℕ) (j : ℕ) → weight ws (perfect a size cs j) + 65536 ≤ 65536 * 2 ^ suc (length cs)
+  weight-most : (cs : List ℕ) (j : ℕ) → weight ws (perfect a size cs j) + broken ≤ broken * 2 ^ suc (length cs)
   unfolding weight perfect
   weight-most [] j = omega (arith, weigh-most (wordOf ws (a + j)) size 0)
   weight-most (c ∷ cs) j =
@@ -127,29 +142,29 @@ module _ (ws : List ℕ) (a size : ℕ) where
       let two = weight ws (perfect a size cs (suc (2 * j))) in
       omega (arith, weigh-most (wordOf ws (a + j)) c (one + two), weight-most cs (2 * j), weight-most cs (suc (2 * j)), two-pow-succ (suc (length cs)))
 
-  pub weight-small : (cs : List ℕ) → length cs ≤ 4 → (j : ℕ) → weight ws (perfect a size cs j) ≤ 2097152
+  pub weight-small : (cs : List ℕ) → length cs ≤ 8 → (j : ℕ) → weight ws (perfect a size cs j) + broken ≤ linkHeavy
   weight-small cs few j =
-      let n : suc (length cs) ≤ 5 = omega arith in
-      let p : 2 ^ suc (length cs) ≤ 2 ^ 5 = pow-le-pow-right (omega arith) n in
+      let n : suc (length cs) ≤ 9 = omega arith in
+      let p : 2 ^ suc (length cs) ≤ 2 ^ 9 = pow-le-pow-right (omega arith) n in
       omega (arith, weight-most cs j)
 
 -- what is broken somewhere below is broken at the top
 
-parent-broken : (ws : List ℕ) (a size size′ : ℕ) (cs : List ℕ) (m : ℕ) → 65536 ≤ weight ws (perfect a size cs m) → 65536 ≤ weight ws (perfect a size (size′ ∷ cs) (m / 2))
+parent-broken : (ws : List ℕ) (a size size′ : ℕ) (cs : List ℕ) (m : ℕ) → broken ≤ weight ws (perfect a size cs m) → broken ≤ weight ws (perfect a size (size′ ∷ cs) (m / 2))
 unfolding weight perfect
 parent-broken ws a size size′ cs m h =
     weigh-least (wordOf ws (a + m / 2)) size′ (weight ws (perfect a size cs (2 * (m / 2))) + weight ws (perfect a size cs (suc (2 * (m / 2))))) (go (ℕ-discrete m (2 * (m / 2))))
   where
-    go : Dec (m ≡ 2 * (m / 2)) → 65536 ≤ weight ws (perfect a size cs (2 * (m / 2))) + weight ws (perfect a size cs (suc (2 * (m / 2))))
-    go (yes e) = let z : 65536 ≤ weight ws (perfect a size cs (2 * (m / 2))) = subst (λ j. 65536 ≤ weight ws (perfect a size cs j)) e h in omega arith
+    go : Dec (m ≡ 2 * (m / 2)) → broken ≤ weight ws (perfect a size cs (2 * (m / 2))) + weight ws (perfect a size cs (suc (2 * (m / 2))))
+    go (yes e) = let z : broken ≤ weight ws (perfect a size cs (2 * (m / 2))) = subst (λ j. broken ≤ weight ws (perfect a size cs j)) e h in omega arith
     go (no e) =
         let f : m ≡ suc (2 * (m / 2)) = omega arith in
-        let z : 65536 ≤ weight ws (perfect a size cs (suc (2 * (m / 2)))) = subst (λ j. 65536 ≤ weight ws (perfect a size cs j)) f h in
+        let z : broken ≤ weight ws (perfect a size cs (suc (2 * (m / 2)))) = subst (λ j. broken ≤ weight ws (perfect a size cs j)) f h in
         omega arith
 
 module _ (ws : List ℕ) (a size : ℕ) (cs : List ℕ) where
-  broken-up : (d : ℕ) → d ≤ length cs → (m : ℕ) → 2 ^ d ≤ m → m < 2 ^ suc d → 65536 ≤ weight ws (perfect a size (drop d cs) m) → 65536 ≤ weight ws (perfect a size cs 1)
-  broken-up zero deep m low high h = let e : m ≡ 1 = omega arith in subst (λ j. 65536 ≤ weight ws (perfect a size cs j)) e h
+  broken-up : (d : ℕ) → d ≤ length cs → (m : ℕ) → 2 ^ d ≤ m → m < 2 ^ suc d → broken ≤ weight ws (perfect a size (drop d cs) m) → broken ≤ weight ws (perfect a size cs 1)
+  broken-up zero deep m low high h = let e : m ≡ 1 = omega arith in subst (λ j. broken ≤ weight ws (perfect a size cs j)) e h
   broken-up (suc d) deep m low high h =
       let p = two-pow-succ d in
       let q = two-pow-succ (suc d) in
@@ -162,7 +177,7 @@ same-weigh ws m a a′ size size′ x x′ y y′ ea es ex ey = cc
 -- ---- the S: those in use and those behind them
 
 module _ (ws below : List ℕ) (i : ℕ) (of : OfLink ws below i) where
-  no-room : (below′ : List ℕ) → length below′ ≡ 32 → room ws i ≤ weight ws (kMerger i) → RoomLeft ws below′ i 0
+  no-room : (below′ : List ℕ) → length below′ ≡ widest → room ws i ≤ weight ws (kMerger i) → RoomLeft ws below′ i 0
   no-room below′ sized none = record { is = λ z. absurd (omega arith); right = λ z. absurd (omega arith); none = λ e. none; sized = sized }
 
   pub no-counter : counterIn ws i < 1 → RoomLeft ws below i 0
@@ -190,7 +205,7 @@ module _ (ws below : List ℕ) (i k′ f′ s′ : ℕ) (q : Counted ws below i 
   pub ask-used : Stretch ws below f′ k′ end
   ask-used = record { long = q .of .long; up = omega arith; few = omega (arith, q .of .few, q .few, q .k-is); fits = omega (arith, q .of .fits, q .few, q .k-is, q .first-is); sized = q .of .sized }
 
-  pub ask-unused : (below′ : List ℕ) → length below′ ≡ 32 → Stretch ws below′ f′ end (2 * k′)
+  pub ask-unused : (below′ : List ℕ) → length below′ ≡ widest → Stretch ws below′ f′ end (2 * k′)
   ask-unused below′ sized = record {
     long = q .of .long;
     up = omega (arith, q .few);
@@ -199,14 +214,14 @@ module _ (ws below : List ℕ) (i k′ f′ s′ : ℕ) (q : Counted ws below i 
     sized = sized;
   }
 
-  pub room-fits : (counterIn ws i - 1) * s′ ≤ 17280
-  room-fits = product (counterIn ws i - 1) s′ (omega (arith, q .of .few, q .few, q .k-is)) (omega (arith, q .of .part, q .s-is))
+  pub room-fits : (counterIn ws i - 1) * s′ < broken
+  room-fits = rw (q .s-is) (used-few (q .of .number) (counterIn ws i - 1) (omega (arith, q .few, q .k-is)))
 
   -- an S that breaks a rule
   wrong-S : (low high : ℕ) → k′ ≤ low → high ≤ 2 * k′ → Wrong ws f′ low high s′ nothing → room ws i ≤ weight ws (kMerger i)
   unfolding weight perfect kMerger
   wrong-S low high from to w =
-      let here : weight ws (perfect (first i) (s i) (drop (height i) (levels i)) (w .at)) ≡ 65536 = all ∙ w .is in
+      let here : weight ws (perfect (first i) (s i) (drop (height i) (levels i)) (w .at)) ≡ broken = all ∙ w .is in
       let up = broken-up ws (first i) (s i) (levels i) (height i) (omega (arith, levels-long (q .of .number))) (w .at)
       (omega (arith, w .from, k-is i, q .k-is)) (omega (arith, w .to, k-is i, q .k-is, two-pow-succ (height i))) (omega (arith, here)) in
       omega (arith, up, room-most ws (q .of .number))
@@ -267,10 +282,10 @@ pub record Merged (ws below : List ℕ) (i n a low : ℕ) : Type 0 where
   pub number : LinkNumber i
   pub same : n ≡ i
   pub placed : a ≡ first i
-  pub long : 256 ≤ length ws
-  pub fits : first i + 2 * k i ≤ 61
-  pub few : k i ≤ 16
-  pub sized : length below ≡ 32
+  pub long : bookWords ≤ length ws
+  pub fits : 8 + (first i + 2 * k i) ≤ bookWords
+  pub few : 2 * k i ≤ widest
+  pub sized : length below ≡ widest
   pub within : low ≤ k i
   pub some : 1 ≤ low
   pub depth : ℕ
@@ -300,10 +315,10 @@ merge-starts ws below i n a k′ of stored en ea ek = record {
 }
 
 module _ (ws below : List ℕ) (i n a low : ℕ) (inv : Merged ws below i n a low) where
-  pub merge-lower : (m : ℕ) → low ≤ m → m < 2 * low → getD below m 0 ≤ 2097152
+  pub merge-lower : (m : ℕ) → low ≤ m → m < 2 * low → getD below m 0 ≤ linkHeavy
   merge-lower m h g =
       let e = inv .weighed m h g in
-      let few : length (drop (inv .depth) (levels i)) ≤ 4 = omega (arith, length-drop (inv .depth) (levels i), levels-long (inv .number), height-most (inv .number)) in
+      let few : length (drop (inv .depth) (levels i)) ≤ 8 = omega (arith, length-drop (inv .depth) (levels i), levels-long (inv .number), height-most (inv .number)) in
       omega (arith, weight-small ws (first i) (s i) (drop (inv .depth) (levels i)) few m)
 
   module _ (more : 1 < low) where
@@ -402,9 +417,9 @@ module _ (ws : List ℕ) (i behind : ℕ) where
   lower = weight ws (kMerger i)
 
   abbrev linkFor : Bool → ℕ
-  linkFor t = elim t [ true ↦ weigh (wordOf ws (first i)) (capacity i 0) (lower + behind) | false ↦ 65536 ]
+  linkFor t = elim t [ true ↦ weigh (wordOf ws (first i)) (capacity i 0) (lower + behind) | false ↦ broken ]
 
-  pub link-broken : room ws i ≤ lower → linkWeight ws i behind ≡ 65536
+  pub link-broken : room ws i ≤ lower → linkWeight ws i behind ≡ broken
   unfolding linkWeight
   link-broken h = ap linkFor (le-ltb lower (room ws i) h)
 
@@ -417,17 +432,17 @@ module _ (ws : List ℕ) (i behind : ℕ) where
       let e : weigh (wordOf ws a) size (x + behind) ≡ weigh (wordOf ws (first i)) (capacity i 0) (lower + behind) = cc in
       e ∙ sym (link-right (omega arith))
 
-  pub link-most : LinkNumber i → linkWeight ws i behind ≤ 2162688 + behind
+  pub link-most : LinkNumber i → linkWeight ws i behind ≤ linkHeavy + behind
   unfolding kMerger
   link-most h = go (decLt lower (room ws i))
     where
-      few : length (levels i) ≤ 4
+      few : length (levels i) ≤ 8
       few = omega (arith, levels-long h, height-most h)
 
-      small : weight ws (perfect (first i) (s i) (levels i) 1) ≤ 2097152
+      small : weight ws (perfect (first i) (s i) (levels i) 1) + broken ≤ linkHeavy
       small = weight-small ws (first i) (s i) (levels i) few 1
 
-      go : Dec (lower < room ws i) → linkWeight ws i behind ≤ 2162688 + behind
+      go : Dec (lower < room ws i) → linkWeight ws i behind ≤ linkHeavy + behind
       go (yes lt) = omega (arith, link-right lt, weigh-most (wordOf ws (first i)) (capacity i 0) (lower + behind), small)
       go (no ge) = omega (arith, link-broken (omega arith))
 
@@ -435,13 +450,13 @@ module _ (ws : List ℕ) (i behind : ℕ) where
 
 pub record Behind (ws below : List ℕ) (links i held : ℕ) : Type 0 where
   pub is : held ≡ linksWeight ws i (suc links - i)
-  pub small : held ≤ 2162688 * (suc links - i)
-  pub sized : length below ≡ 32
+  pub small : held ≤ linkHeavy * (suc links - i)
+  pub sized : length below ≡ widest
 
-pub behind-starts : (ws below : List ℕ) (links : ℕ) → AllLinks ws below links → Behind ws below links 5 0
+pub behind-starts : (ws below : List ℕ) (links : ℕ) → AllLinks ws below links → Behind ws below links (suc mostLinks) 0
 unfolding linksWeight
 behind-starts ws below links p =
-    let none : suc links - 5 ≡ 0 = omega (arith, p .number .high) in
+    let none : suc links - suc mostLinks ≡ 0 = omega (arith, p .number .high) in
     record { is = rw none; small = omega arith; sized = p .sized }
 
 module _ (ws below : List ℕ) (links i held : ℕ) (behind : Behind ws below links (suc i) held) where
@@ -453,8 +468,8 @@ module _ (ws below : List ℕ) (links i held : ℕ) (behind : Behind ws below li
       let was : held ≡ linksWeight ws (suc i) 0 = rw none′ at (behind .is) in
       record { is = rw none (eh ∙ was); small = omega (arith, behind .small, eh); sized = rw eb (behind .sized) }
 
-  module _ (number : LinkNumber i) (all : links ≤ 4) (below₁ : List ℕ) (r₁ : ℕ) (left : RoomLeft ws below₁ i r₁) where
-    pub ask-mergers : 256 ≤ length ws → Merging ws below₁ i held r₁
+  module _ (number : LinkNumber i) (all : links ≤ mostLinks) (below₁ : List ℕ) (r₁ : ℕ) (left : RoomLeft ws below₁ i r₁) where
+    pub ask-mergers : bookWords ≤ length ws → Merging ws below₁ i held r₁
     ask-mergers long = record { of = of-link ws below₁ i long number (left .sized); small = omega (arith, behind .small); left = left }
 
     pub behind-more : i ≤ links → (below₂ : List ℕ) (r₂ : ℕ) → Weighed ws below₂ i held r₂ → (below′ : List ℕ) (held′ : ℕ) → below′ ≡ below₂ → held′ ≡ r₂ → Behind ws below′ links i held′
@@ -464,7 +479,7 @@ module _ (ws below : List ℕ) (links i held : ℕ) (behind : Behind ws below li
         let now : held′ ≡ linkWeight ws i (linksWeight ws (suc i) (suc links - suc i)) = eh ∙ done .is ∙ ap (linkWeight ws i) (behind .is) in
         record { is = rw one now; small = omega (arith, behind .small, eh, done .is, link-most ws i held number); sized = rw eb (done .sized) }
 
-pub behind-ends : (ws below : List ℕ) (links held : ℕ) → links ≤ 4 → Behind ws below links 1 held → AllWeighed ws links held
+pub behind-ends : (ws below : List ℕ) (links held : ℕ) → links ≤ mostLinks → Behind ws below links 1 held → AllWeighed ws links held
 behind-ends ws below links held few behind =
     let all : suc links - 1 ≡ links = omega arith in
     record { is = rw all at (behind .is); small = omega (arith, behind .small) }

@@ -130,12 +130,12 @@ module _ (b : Book) (i : ℕ) where
 -- ---- the whole book
 
 pub link-number : (l : ℕ) → isLinkNumber l ≡ true → LinkNumber l
-unfolding isLinkNumber mostLinks
-link-number l h = record { low = leb-true 1 l (and-one (leb 1 l) (leb l 4) h); high = leb-true l 4 (and-two (leb 1 l) (leb l 4) h) }
+unfolding isLinkNumber
+link-number l h = record { low = leb-true 1 l (and-one (leb 1 l) (leb l mostLinks) h); high = leb-true l mostLinks (and-two (leb 1 l) (leb l mostLinks) h) }
 
 pub is-link-number : (l : ℕ) → LinkNumber l → isLinkNumber l ≡ true
-unfolding isLinkNumber mostLinks
-is-link-number l h = both (leb 1 l) (leb l 4) (le-leb 1 l (h .low)) (le-leb l 4 (h .high))
+unfolding isLinkNumber
+is-link-number l h = both (leb 1 l) (leb l mostLinks) (le-leb 1 l (h .low)) (le-leb l mostLinks (h .high))
 
 module _ (b : Book) where
   abbrev marksTest : Bool

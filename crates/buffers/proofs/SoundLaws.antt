@@ -12,8 +12,9 @@ use lib.Seq.{getD-set-same, getD-set-other}
 use lib.Dec.{eqb}
 use borrow.Author.Tests.{eq-eqb, ne-eqb, le-leb, lt-leb}
 use Rattle.rules.specs.Tests.{_and_, _implies_}
+use Rattle.rules.specs.Links.{widest}
 use Rattle.buffers.specs.Format.{countIn, markIn, startIn, wordOf, countOf}
-use Rattle.buffers.specs.Weights.{wordRight, weigh, nothing, inputs, Passed, Wrong, Stretch, Stretched, Level, Levelled}
+use Rattle.buffers.specs.Weights.{broken, mostWeight, wordRight, weigh, nothing, inputs, Passed, Wrong, Stretch, Stretched, Level, Levelled}
 
 pub no-truth : {A : Type 0} → false ≡ true → A
 no-truth e = absurd (let z : _≡_ {A = ℕ} 0 1 = cc in omega arith)
@@ -37,17 +38,17 @@ module _ (w size held : ℕ) where
 
 module _ (w size under : ℕ) where
   abbrev picked : Bool → ℕ
-  picked t = elim t [ true ↦ countIn w + under | false ↦ 65536 ]
+  picked t = elim t [ true ↦ countIn w + under | false ↦ broken ]
 
   pub weigh-true : wordRight w size (countIn w + under) ≡ true → weigh w size under ≡ countIn w + under
   unfolding weigh
   weigh-true e = ap picked e
 
-  pub weigh-false : wordRight w size (countIn w + under) ≡ false → weigh w size under ≡ 65536
+  pub weigh-false : wordRight w size (countIn w + under) ≡ false → weigh w size under ≡ broken
   unfolding weigh
   weigh-false e = ap picked e
 
-  pub weigh-over : size < startIn w + countIn w → weigh w size under ≡ 65536
+  pub weigh-over : size < startIn w + countIn w → weigh w size under ≡ broken
   weigh-over h = weigh-false (word-over w size (countIn w + under) h)
 
   pub weigh-right : startIn w + countIn w ≤ size → (markIn w ≡ 1 → countIn w + under ≡ 0) → weigh w size under ≡ countIn w + under
@@ -57,7 +58,7 @@ module _ (w size under : ℕ) where
       go (yes m) = word-marked w size (countIn w + under) fits m ∙ eq-eqb (countIn w + under) 0 (mark m)
       go (no m) = word-unmarked w size (countIn w + under) fits m
 
-  pub weigh-marked : startIn w + countIn w ≤ size → (countIn w + under ≡ 0 → ⊥) → markIn w ≡ 1 → weigh w size under ≡ 65536
+  pub weigh-marked : startIn w + countIn w ≤ size → (countIn w + under ≡ 0 → ⊥) → markIn w ≡ 1 → weigh w size under ≡ broken
   weigh-marked fits some mark = weigh-false (word-marked w size (countIn w + under) fits mark ∙ ne-eqb (countIn w + under) 0 some)
 
   -- a word that weighs less than what is broken keeps the rules
@@ -66,7 +67,7 @@ module _ (w size under : ℕ) where
     pub mark : markIn w ≡ 1 → countIn w + under ≡ 0
     pub is : weigh w size under ≡ countIn w + under
 
-  pub weigh-kept : weigh w size under < 65536 → Kept
+  pub weigh-kept : weigh w size under < broken → Kept
   weigh-kept less = go (decLt size (startIn w + countIn w)) (ℕ-discrete (countIn w + under) 0) (ℕ-discrete (markIn w) 1)
     where
       go : Dec (size < startIn w + countIn w) → Dec (countIn w + under ≡ 0) → Dec (markIn w ≡ 1) → Kept
@@ -79,33 +80,33 @@ module _ (w size under : ℕ) where
           let f : startIn w + countIn w ≤ size = omega arith in
           record { fits = f; mark = λ e. absurd (mark e); is = weigh-right f (λ e. absurd (mark e)) }
 
-  pub weigh-most : weigh w size under ≤ 65536 + under
+  pub weigh-most : weigh w size under ≤ broken + under
   unfolding weigh
   weigh-most = go (wordRight w size (countIn w + under))
     where
-      go : (t : Bool) → picked t ≤ 65536 + under
+      go : (t : Bool) → picked t ≤ broken + under
       go true = omega arith
       go false = omega arith
 
-  pub weigh-least : 65536 ≤ under → 65536 ≤ weigh w size under
+  pub weigh-least : broken ≤ under → broken ≤ weigh w size under
   unfolding weigh
   weigh-least h = go (wordRight w size (countIn w + under))
     where
-      go : (t : Bool) → 65536 ≤ picked t
+      go : (t : Bool) → broken ≤ picked t
       go true = omega arith
       go false = omega arith
 
 -- ---- one buffer after the other: those from `low` on are weighed up to j
 
 pub record Passing (ws below below′ : List ℕ) (a low high size : ℕ) (under : ℕ → ℕ) (j : ℕ) : Type 0 where
-  pub sized : length below′ ≡ 32
+  pub sized : length below′ ≡ widest
   pub from : low ≤ j
   pub to : j ≤ high
   pub weighed : (m : ℕ) → low ≤ m → m < j → getD below′ m 0 ≡ weigh (wordOf ws (a + m)) size (under m)
   pub before : (m : ℕ) → m < low → getD below′ m 0 ≡ getD below m 0
   pub behind : (m : ℕ) → high ≤ m → getD below′ m 0 ≡ getD below m 0
 
-pub pass-starts : (ws below : List ℕ) (a low high size : ℕ) (under : ℕ → ℕ) → length below ≡ 32 → low ≤ high → Passing ws below below a low high size under low
+pub pass-starts : (ws below : List ℕ) (a low high size : ℕ) (under : ℕ → ℕ) → length below ≡ widest → low ≤ high → Passing ws below below a low high size under low
 pass-starts ws below a low high size under sized up = record {
   sized = sized;
   from = omega arith;
@@ -116,7 +117,7 @@ pass-starts ws below a low high size under sized up = record {
 }
 
 module _ (ws below below′ : List ℕ) (a low high size : ℕ) (under : ℕ → ℕ) (j : ℕ) (inv : Passing ws below below′ a low high size under j) where
-  pub pass-again : j < high → high ≤ 32 → (x : ℕ) → x ≡ weigh (wordOf ws (a + j)) size (under j) → Passing ws below (set below′ j x) a low high size under (j + 1)
+  pub pass-again : j < high → high ≤ widest → (x : ℕ) → x ≡ weigh (wordOf ws (a + j)) size (under j) → Passing ws below (set below′ j x) a low high size under (j + 1)
   pass-again lt few x e = record {
     sized = length-set below′ j x ∙ inv .sized;
     from = omega (arith, inv .from);
@@ -133,7 +134,7 @@ module _ (ws below below′ : List ℕ) (a low high size : ℕ) (under : ℕ →
   pub pass-ends : high ≤ j → Passed ws below below′ a low high size under
   pass-ends h = record { weighed = λ m p q. inv .weighed m p (omega arith); before = inv .before }
 
-  pub pass-wrong : j < high → weigh (wordOf ws (a + j)) size (under j) ≡ 65536 → Wrong ws a low high size under
+  pub pass-wrong : j < high → weigh (wordOf ws (a + j)) size (under j) ≡ broken → Wrong ws a low high size under
   pass-wrong lt e = record { at = j; from = inv .from; to = lt; is = e }
 
 -- ---- a stretch
@@ -208,7 +209,7 @@ module _ (ws below : List ℕ) (a low size : ℕ) (p : Level ws below a low) whe
           let two = inv .behind (2 * j + 1) (omega (arith, inv .from)) in
           omega arith
 
-      pub level-under : inputs below′ j ≤ 4398046511104
+      pub level-under : inputs below′ j ≤ 4 * mostWeight
       level-under =
           omega (arith, inputs-is, p .small (2 * j) (omega (arith, inv .from)) (omega arith), p .small (2 * j + 1) (omega (arith, inv .from)) (omega arith))
 

@@ -7,7 +7,7 @@ use native.Mathlib.Decide.{decLt}
 use mathlib.Core.List.{List, [], _∷_}
 use lib.Dec.{T, leb, ltb, eqb, eqb→eq, leb→le}
 use Rattle.rules.specs.Tests.{_and_, _or_, every}
-use Rattle.rules.specs.Links.{s, k, levels, first, bufferCount, most, LinkNumber}
+use Rattle.rules.specs.Links.{s, k, levels, first, bufferCount, mostLinks, LinkNumber}
 use Rattle.rules.specs.Tree.{Tree, exhausted, buffer, merger, perfect, kMerger, linksFrom, treeOf}
 use Rattle.rules.specs.Book.{Book, count, together}
 use Rattle.rules.proofs.Table.{every-at, each-link, k-least}
@@ -89,7 +89,7 @@ module _ (b : Book) where
   unfolding kMerger
   merger-held {i} h = perfect-held b (first i) (s i) (levels i) ∙ ap (together b (first i + 1)) (span-is h)
 
-  links-held : (i n : ℕ) → 1 ≤ i → i + n ≤ 5 → heldUnder b (linksFrom i n) ≡ together b (first i) (linksSpan i n)
+  links-held : (i n : ℕ) → 1 ≤ i → i + n ≤ suc mostLinks → heldUnder b (linksFrom i n) ≡ together b (first i) (linksSpan i n)
   unfolding heldUnder linksFrom linksSpan together
   links-held i zero low high = refl
   links-held i (suc n) low high =
@@ -151,16 +151,12 @@ pub first-least : {i : ℕ} → LinkNumber i → 1 ≤ first i
 unfolding every first
 first-least {i} h = leb→le 1 (first i) (each-link (λ i. leb 1 (first i)) tt h)
 
-pub most-small : {l : ℕ} → LinkNumber l → most l ≤ 17280
-unfolding every most
-most-small {l} h = leb→le (most l) 17280 (each-link (λ l. leb (most l) 17280) tt h)
-
 pub capacity-I : capacityOf 0 ≡ 8
 unfolding capacityOf capacities
 capacity-I = refl
 
 -- what holds of I and of every link's buffers holds of all
-pub each-buffer : (P : ℕ → Type 0) (l : ℕ) → l ≤ 4 → P 0 → ((i j : ℕ) → 1 ≤ i → i ≤ l → j < 2 * k i → P (first i + j)) → (n : ℕ) → n < first (suc l) → P n
+pub each-buffer : (P : ℕ → Type 0) (l : ℕ) → l ≤ mostLinks → P 0 → ((i j : ℕ) → 1 ≤ i → i ≤ l → j < 2 * k i → P (first i + j)) → (n : ℕ) → n < first (suc l) → P n
 unfolding first
 each-buffer P zero few zeroth each n lt = let e : n ≡ 0 = omega arith in rw e zeroth
 each-buffer P (suc l) few zeroth each n lt = go (decLt n (first (suc l))) (each-buffer P l (omega arith) zeroth (λ i j low high. each i j low (omega arith)) n)

@@ -3,6 +3,7 @@ use mathlib.Core.Path.{_≡_}
 use mathlib.Core.List.{List}
 use Prim.Native.Nat.{ℕ, _≤_, _<_}
 use lib.ListN.{length, getD}
+use Rattle.rules.specs.Links.{mostLinks, bookWords}
 use Rattle.buffers.specs.Format.{linksIn, counterIn}
 use Rattle.buffers.specs.Post.{Inside}
 
@@ -11,8 +12,8 @@ pub record HasCounter (ws : List ℕ) (i : ℕ) : Type 0 where
   pub array : Inside ws
   pub low : 1 ≤ i
   pub high : i ≤ linksIn ws
-  pub small : i ≤ 4
-  pub long : 256 ≤ length ws
+  pub small : i ≤ mostLinks
+  pub long : bookWords ≤ length ws
 
 -- c(i) is c, those before it are 1, and no other word has changed
 pub record CounterPut (ws ws′ : List ℕ) (i c : ℕ) : Type 0 where

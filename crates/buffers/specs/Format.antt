@@ -1,10 +1,10 @@
 -- The book's format, word by word, and what entries each buffer has in an array of words. docs/BOOK.md describes the same.
-use Prim.Native.Nat.{ℕ, zero, suc, _+_, _-_, _*_, _/_, _%_, _≤_, _<_}
-use mathlib.Core.Path.{_≡_}
-use mathlib.Core.Bool.{Bool, true, false}
-use mathlib.Core.List.{List, [], _∷_, map}
+use Prim.Native.Nat.{ℕ, _+_, _/_, _%_}
+use mathlib.Core.List.{List, map}
 use lib.ListN.{length, getD, take, drop}
 use lib.Dec.{eqb}
+use Rattle.rules.specs.declared.Rule.{Rule}
+use Rattle.rules.specs.Entries.{theRule, keyBy}
 use Rattle.rules.specs.Links.{from, bufferCount}
 use Rattle.rules.specs.Tree.{Buffers}
 use Rattle.rules.specs.Book.{Book}
@@ -31,6 +31,14 @@ linksIn ws = getD ws 0 0
 -- words 1 to 4: the counters c(1) to c(4)
 abbrev pub counterIn : List ℕ → ℕ → ℕ
 counterIn ws i = getD ws i 0
+
+-- the rule that the array names, and its key; today no word of the book says anything of it
+unfoldable pub ruleIn : List ℕ → Rule
+unfolding theRule
+ruleIn ws = theRule
+
+abbrev pub keyIn : List ℕ → ℕ → ℕ
+keyIn ws = keyBy (ruleIn ws)
 
 -- words 8 and on: the buffers' words, by number
 abbrev pub wordOf : List ℕ → ℕ → ℕ

@@ -1,13 +1,12 @@
 -- What the accessors and writers ask and ensure, with a name for each part.
 use mathlib.Core.Path.{_≡_}
 use mathlib.Core.Logic.{_≢_, _⊎_}
-use Prim.Native.Nat.{ℕ, _+_, _*_, _≤_, _<_}
-use mathlib.Core.List.{List, [], _∷_, _++_}
+use Prim.Native.Nat.{ℕ, _+_, _≤_, _<_}
+use mathlib.Core.List.{List}
 use lib.ListN.{length, getD, set}
-use Rattle.rules.specs.Links.{bookWords, bufferCount, LinkNumber, words}
-use Rattle.rules.specs.Tree.{Buffers}
+use Rattle.rules.specs.Links.{allBuffers, bookWords, bufferCount, LinkNumber, words}
 use Rattle.buffers.specs.Slots.{base, capacityOf}
-use Rattle.buffers.specs.Format.{linksIn, wordOf, countOf, startOf, markOf, many, bufferOf, buffersOf}
+use Rattle.buffers.specs.Format.{linksIn, countOf, startOf, markOf, many, buffersOf}
 
 -- the array is long enough for its links, and every count and start place is inside its buffer
 pub record Inside (ws : List ℕ) : Type 0 where
@@ -15,13 +14,14 @@ pub record Inside (ws : List ℕ) : Type 0 where
   pub long : words (linksIn ws) ≤ length ws
   pub fits : (n : ℕ) → n < many ws → startOf ws n + countOf ws n ≤ capacityOf n
 
--- such an array and a buffer of it; what follows the first two is what they give, by `has`, for the code's sums and places
+-- such an array and a buffer of it; what follows the first two is what they give, by `has`, for the code's sums and places: each has a word in the book, and a count has 16 bits
 pub record Has (ws : List ℕ) (n : ℕ) : Type 0 where
   pub array : Inside ws
   pub below : n < many ws
-  pub small : n < 61
-  pub behind : 256 ≤ base n
-  pub room : capacityOf n ≤ 4096
+  pub numbered : n < allBuffers
+  pub small : 8 + n < bookWords
+  pub behind : bookWords ≤ base n
+  pub room : capacityOf n ≤ 65535
   pub slots : base n + capacityOf n ≤ length ws
   pub fits : startOf ws n + countOf ws n ≤ capacityOf n
 

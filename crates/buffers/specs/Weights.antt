@@ -6,15 +6,19 @@ use mathlib.Core.Logic.{_⊎_}
 use mathlib.Core.List.{List}
 use lib.ListN.{length, getD}
 use lib.Dec.{leb, ltb, eqb}
-use Rattle.rules.specs.Links.{s, k, first, capacity, bufferCount, most, LinkNumber}
+use Rattle.rules.specs.Links.{s, k, first, capacity, bufferCount, most, widest, bookWords, LinkNumber}
 use Rattle.rules.specs.Tree.{Tree, exhausted, buffer, merger, kMerger}
 use Rattle.rules.specs.Tests.{_and_, _implies_}
 use Rattle.rules.specs.Book.{Book, isLinkNumber, together, sound}
 use Rattle.buffers.specs.Format.{countIn, markIn, startIn, linksIn, counterIn, wordOf, countOf}
 
--- more than any queue holds, and more than any count
+-- more than any queue holds, by `most-small`, and more than any count
 abbrev pub broken : ℕ
-broken = 65536
+broken = 1048576
+
+-- two to the 40th: no weight is more, nor are those of all links together, so that the code's sums of a few of them fit
+abbrev pub mostWeight : ℕ
+mostWeight = 1099511627776
 
 -- a word that keeps the rules: its entries lie inside its buffer, and with a mark none are held in it and under it
 unfoldable pub wordRight : ℕ → ℕ → ℕ → Bool
@@ -73,15 +77,15 @@ heldIfSound b = elim (sound b) [ true ↦ together b 0 (bufferCount (b .links)) 
 
 -- all that the whole test asks: the book's words are there
 pub record HasBook (ws : List ℕ) : Type 0 where
-  pub long : 256 ≤ length ws
+  pub long : bookWords ≤ length ws
 
 -- buffers low .. high - 1 of a link whose A has number a
 pub record Stretch (ws below : List ℕ) (a low high : ℕ) : Type 0 where
-  pub long : 256 ≤ length ws
+  pub long : bookWords ≤ length ws
   pub up : low ≤ high
-  pub few : high ≤ 32
-  pub fits : a + high ≤ 61
-  pub sized : length below ≡ 32
+  pub few : high ≤ widest
+  pub fits : 8 + (a + high) ≤ bookWords
+  pub sized : length below ≡ widest
 
 -- they are weighed, each over what stands under it
 pub record Passed (ws below below′ : List ℕ) (a low high size : ℕ) (under : ℕ → ℕ) : Type 0 where
@@ -108,14 +112,14 @@ pub record Stretched (ws below below′ : List ℕ) (a low high size many : ℕ)
   pub right : r ≡ true → Passed ws below below′ a low high size nothing
   pub few : r ≡ true → (m : ℕ) → low ≤ m → m < high → countOf ws (a + m) ≤ many
   pub wrong : r ≡ false → Wrong ws a low high size nothing ⊎ Over ws a low high many
-  pub sized : length below′ ≡ 32
+  pub sized : length below′ ≡ widest
 
 pub record Level (ws below : List ℕ) (a low : ℕ) : Type 0 where
-  pub long : 256 ≤ length ws
-  pub few : low ≤ 8
-  pub fits : a + 2 * low ≤ 61
-  pub sized : length below ≡ 32
-  pub small : (m : ℕ) → 2 * low ≤ m → m < 4 * low → getD below m 0 ≤ 1099511627776
+  pub long : bookWords ≤ length ws
+  pub few : 4 * low ≤ widest
+  pub fits : 8 + (a + 2 * low) ≤ bookWords
+  pub sized : length below ≡ widest
+  pub small : (m : ℕ) → 2 * low ≤ m → m < 4 * low → getD below m 0 ≤ mostWeight
 
 -- what stands under a merger's output: its two inputs
 abbrev pub inputs : List ℕ → ℕ → ℕ
@@ -124,43 +128,43 @@ inputs below m = getD below (2 * m) 0 + getD below (2 * m + 1) 0
 pub record Levelled (ws below below′ : List ℕ) (a low size : ℕ) (r : Bool) : Type 0 where
   pub right : r ≡ true → Passed ws below below′ a low (2 * low) size (inputs below)
   pub wrong : r ≡ false → Wrong ws a low (2 * low) size (inputs below)
-  pub sized : length below′ ≡ 32
+  pub sized : length below′ ≡ widest
 
 -- the S of link i are weighed
 pub record Stored (ws below : List ℕ) (i : ℕ) : Type 0 where
   pub weighed : (m : ℕ) → k i ≤ m → m < 2 * k i → getD below m 0 ≡ weigh (wordOf ws (first i + m)) (s i) 0
 
--- what `number` and `sized` give, by `of-link`, follows them, for the code's sums and places
+-- what `number` and `sized` give, by `of-link`, follows them, for the code's sums and places: a count has 16 bits, a buffer a word in the book
 pub record OfLink (ws below : List ℕ) (i : ℕ) : Type 0 where
-  pub long : 256 ≤ length ws
+  pub long : bookWords ≤ length ws
   pub number : LinkNumber i
-  pub sized : length below ≡ 32
+  pub sized : length below ≡ widest
   pub some : 2 ≤ k i
-  pub few : k i ≤ 16
-  pub part : s i ≤ 1080
-  pub fits : first i + 2 * k i ≤ 61
+  pub few : 2 * k i ≤ widest
+  pub part : s i ≤ 65535
+  pub fits : 8 + (first i + 2 * k i) ≤ bookWords
 
 -- the room in link i, with its S weighed; or 0, where what stands below A(i) is too much for the room
 pub record RoomLeft (ws below′ : List ℕ) (i r : ℕ) : Type 0 where
   pub is : 0 < r → r ≡ room ws i
   pub right : 0 < r → Stored ws below′ i
   pub none : r ≡ 0 → room ws i ≤ weight ws (kMerger i)
-  pub sized : length below′ ≡ 32
+  pub sized : length below′ ≡ widest
 
 pub record Merging (ws below : List ℕ) (i behind r : ℕ) : Type 0 where
   pub of : OfLink ws below i
-  pub small : behind ≤ 10000000
+  pub small : behind ≤ mostWeight
   pub left : RoomLeft ws below i r
 
 pub record Weighed (ws below′ : List ℕ) (i behind r : ℕ) : Type 0 where
   pub is : r ≡ linkWeight ws i behind
-  pub sized : length below′ ≡ 32
+  pub sized : length below′ ≡ widest
 
 pub record AllLinks (ws below : List ℕ) (links : ℕ) : Type 0 where
-  pub long : 256 ≤ length ws
+  pub long : bookWords ≤ length ws
   pub number : LinkNumber links
-  pub sized : length below ≡ 32
+  pub sized : length below ≡ widest
 
 pub record AllWeighed (ws : List ℕ) (links r : ℕ) : Type 0 where
   pub is : r ≡ linksWeight ws 1 links
-  pub small : r ≤ 10000000
+  pub small : r ≤ mostWeight

@@ -1,10 +1,11 @@
-// The link number, and the counters c(1) to c(L).
+// The link number, the rule, and the counters c(1) to c(L).
 ghost use mathlib.Core.Path.{_≡_};
 ghost use Prim.Native.Nat.{_<_, _≤_};
 ghost use lib.ListN.{length};
-ghost use Rattle.buffers.specs.Format.{linksIn, counterIn};
+ghost use Rattle.buffers.specs.Format.{linksIn, counterIn, ruleIn};
 ghost use Rattle.buffers.specs.Post.{Inside};
 ghost use Rattle.buffers.specs.Counters.{HasCounter, CounterPut};
+use rules::Rule;
 
 // How many links the queue has, as its book says.
 pub fn links(a: &[u64]) -> u64
@@ -12,6 +13,13 @@ pub fn links(a: &[u64]) -> u64
     ensures { λ r. ⌜ r ≡ linksIn (now (a .entry)) ⌝ }
 {
     a[0]
+}
+
+// By what the queue orders its entries; no word of the book says anything of it yet.
+pub fn rule(a: &[u64]) -> Rule
+    ensures { λ r. ⌜ r ≡ ruleIn (now (a .entry)) ⌝ }
+{
+    Rule {}
 }
 
 // c(i).

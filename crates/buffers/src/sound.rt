@@ -1,13 +1,13 @@
 // The book test: whether the book keeps every book rule. A buffer weighs what stands in it and below it; a broken rule weighs more than any queue holds.
 ghost use mathlib.Core.Path.{_≡_};
-ghost use Prim.Native.Nat.{_≤_};
+ghost use Prim.Native.Nat.{_*_, _≤_};
 ghost use Rattle.rules.specs.Book.{sound};
 ghost use Rattle.buffers.specs.Format.{bookOf};
-ghost use Rattle.buffers.specs.Weights.{wordRight, weigh, heldIfSound, HasBook, Stretch, Stretched, Level, Levelled, OfLink, RoomLeft, Merging, Weighed, AllLinks, AllWeighed};
+ghost use Rattle.buffers.specs.Weights.{mostWeight, wordRight, weigh, heldIfSound, HasBook, Stretch, Stretched, Level, Levelled, OfLink, RoomLeft, Merging, Weighed, AllLinks, AllWeighed};
 use rules::Link;
 
 // More than any queue holds.
-pub const BROKEN: u64 = 65536;
+pub const BROKEN: u64 = 1048576;
 
 // Whether a buffer's word keeps the rules; so many entries are held in it and below it.
 fn right(w: u64, capacity: u64, held: u64) -> bool
@@ -24,7 +24,7 @@ fn right(w: u64, capacity: u64, held: u64) -> bool
 
 // What a buffer's word weighs, over what stands below it.
 fn weigh(w: u64, capacity: u64, under: u64) -> u64
-    requires { ⌜ under ≤ 4398046511104 ⌝ }
+    requires { ⌜ under ≤ 4 * mostWeight ⌝ }
     ensures { λ r. ⌜ r ≡ weigh w capacity under ⌝ }
 {
     let held = w % 65536 + under;
@@ -43,7 +43,7 @@ fn stretch(
     high: usize,
     capacity: u64,
     many: u64,
-    below: &mut [u64; 32],
+    below: &mut [u64; Link::WIDEST],
 ) -> bool
     requires { ⌜ Stretch (now a) (now below) first low high ⌝ }
     ensures { λ r. ⌜ Stretched (now (a .entry)) (now (below .entry)) (now (below .exit)) first low high capacity many r ⌝ }
@@ -65,7 +65,13 @@ fn stretch(
 }
 
 // Weighs the outputs low .. 2 low - 1 of a link's mergers, whose inputs are weighed. Returns whether they keep the rules.
-fn level(a: &[u64], first: usize, low: usize, capacity: u64, below: &mut [u64; 32]) -> bool
+fn level(
+    a: &[u64],
+    first: usize,
+    low: usize,
+    capacity: u64,
+    below: &mut [u64; Link::WIDEST],
+) -> bool
     requires { ⌜ Level (now a) (now below) first low ⌝ }
     ensures { λ r. ⌜ Levelled (now (a .entry)) (now (below .entry)) (now (below .exit)) first low capacity r ⌝ }
 {
@@ -83,7 +89,7 @@ fn level(a: &[u64], first: usize, low: usize, capacity: u64, below: &mut [u64; 3
 }
 
 // Weighs link i's S. Returns one more than the entries that they, the inner buffers and B may have together; 0 where the counter or an S breaks a rule.
-fn stores(a: &[u64], i: usize, below: &mut [u64; 32]) -> u64
+fn stores(a: &[u64], i: usize, below: &mut [u64; Link::WIDEST]) -> u64
     requires { ⌜ OfLink (now a) (now below) i ⌝ }
     ensures { λ r. ⌜ RoomLeft (now (a .entry)) (now (below .exit)) i r ⌝ }
 {
@@ -110,7 +116,7 @@ fn stores(a: &[u64], i: usize, below: &mut [u64; 32]) -> u64
 }
 
 // Weighs link i from A on, with what stands behind it. Its S are weighed, and less than `room` may stand below A.
-fn mergers(a: &[u64], i: usize, behind: u64, room: u64, below: &mut [u64; 32]) -> u64
+fn mergers(a: &[u64], i: usize, behind: u64, room: u64, below: &mut [u64; Link::WIDEST]) -> u64
     requires { ⌜ Merging (now a) (now below) i behind room ⌝ }
     ensures { λ r. ⌜ Weighed (now (a .entry)) (now (below .exit)) i behind r ⌝ }
 {
@@ -134,7 +140,7 @@ fn mergers(a: &[u64], i: usize, behind: u64, room: u64, below: &mut [u64; 32]) -
 }
 
 // Weighs all buffers but I, the last link first. One call for each link: the compiler then knows its sizes.
-fn links(a: &[u64], l: usize, below: &mut [u64; 32]) -> u64
+fn links(a: &[u64], l: usize, below: &mut [u64; Link::WIDEST]) -> u64
     requires { ⌜ AllLinks (now a) (now below) l ⌝ }
     ensures { λ r. ⌜ AllWeighed (now (a .entry)) l r ⌝ }
 {
@@ -171,7 +177,7 @@ pub fn weighed(a: &[u64]) -> u64
     if 7 < inserted {
         return BROKEN;
     }
-    let mut below = [0u64; 32];
+    let mut below = [0u64; Link::WIDEST];
     let held = inserted + links(a, l, &mut below);
     if (Link::at(l).most() as u64) < held {
         return BROKEN;

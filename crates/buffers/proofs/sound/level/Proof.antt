@@ -1,6 +1,7 @@
 use Prim.Native.Nat.{_-_, _*_}
 use native.Mathlib.Omega.{arith}
 use borrow.Author.Tests.{not-true, not-false}
+use Rattle.rules.specs.Links.{widest}
 use Rattle.buffers.specs.Weights.{inputs}
 use Rattle.buffers.proofs.SoundLaws.{Passing, level-starts, level-under, level-wrong, level-again, level-ends}
 use borrow.Author.Needs.{needs}
@@ -38,6 +39,7 @@ mul-held-2 : tie.Need-mul-held-2 Inv-loop μ-loop
 mul-held-2 c = search needs
 
 element-copy-out-held : tie.Need-element-copy-out-held Inv-loop μ-loop
+unfolding widest
 element-copy-out-held c = search needs
 
 mul-held-3 : tie.Need-mul-held-3 Inv-loop μ-loop
@@ -50,6 +52,7 @@ mul-held-4 : tie.Need-mul-held-4 Inv-loop μ-loop
 mul-held-4 c = search needs
 
 element-copy-out-held-2 : tie.Need-element-copy-out-held-2 Inv-loop μ-loop
+unfolding widest
 element-copy-out-held-2 c = search needs
 
 add-held-2 : tie.Need-add-held-2 Inv-loop μ-loop
@@ -76,6 +79,7 @@ mul-below : tie.Need-mul-below Inv-loop μ-loop
 mul-below c = search needs
 
 element-write-below : tie.Need-element-write-below Inv-loop μ-loop
+unfolding widest
 element-write-below c = search needs
 
 add-j : tie.Need-add-j Inv-loop μ-loop

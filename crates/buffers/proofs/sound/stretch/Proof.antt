@@ -1,5 +1,6 @@
 use Prim.Native.Nat.{_-_}
 use borrow.Author.Tests.{not-true, not-false}
+use Rattle.rules.specs.Links.{widest}
 use Rattle.buffers.proofs.SoundLaws.{Stretching, stretch-starts, stretch-over, stretch-wrong, stretch-again, stretch-ends}
 use borrow.Author.Needs.{needs}
 use Rattle.buffers.proofs.sound.stretch.Statement.{statement}
@@ -43,6 +44,7 @@ mul-below : tie.Need-mul-below Inv-loop μ-loop
 mul-below c = search needs
 
 element-write-below : tie.Need-element-write-below Inv-loop μ-loop
+unfolding widest
 element-write-below c = search needs
 
 add-j : tie.Need-add-j Inv-loop μ-loop

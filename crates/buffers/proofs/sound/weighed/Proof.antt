@@ -3,7 +3,7 @@ use Prim.Native.Nat.{_+_}
 use lib.Dec.{leb}
 use native.Mathlib.Omega.{arith}
 use borrow.Author.Tests.{le-leb, lt-leb}
-use Rattle.rules.specs.Links.{most, LinkNumber}
+use Rattle.rules.specs.Links.{most, LinkNumber, widest}
 use Rattle.buffers.specs.Format.{linksIn}
 use Rattle.buffers.specs.Weights.{weighsRight}
 use Rattle.buffers.proofs.Exact.{no-links, many-links, eight-inserted, all-weighed, broken-weighs, held-weighs}
@@ -33,6 +33,7 @@ returns-3 c =
     broken-weighs _ (eight-inserted _ number _ (c .before .weigh .ensures) (omega arith))
 
 links-requires : tie.Need-links-requires
+unfolding widest
 links-requires c κs = search needs
 
 add-held : tie.Need-add-held
