@@ -3,35 +3,36 @@ ghost use mathlib.Core.Path.{_≡_};
 ghost use Prim.Native.Nat.{_+_, _≤_, _<_, min};
 ghost use lib.Dec.{leb};
 ghost use lib.ListN.{length};
-ghost use Rattle.rules.specs.Entries.{wholeWord};
+ghost use Rattle.rules.specs.Entries.{keyBy};
 ghost use Rattle.runs.specs.Until.{untilEnd};
 ghost use Rattle.runs.specs.Leads.{goesBefore, leading};
 ghost use Rattle.runs.specs.Promises.{laidAt, stretch, Heads, Joins, Merges, Moves, Parts, Stretches};
+use rules::Rule;
 
 // Whether x moves before y where x is the first input's: the one place that knows the order.
-pub fn goes_first(x: u64, y: u64) -> bool
-    ensures { λ r. ⌜ r ≡ leb (wholeWord x) (wholeWord y) ⌝ }
+pub fn goes_first(rule: Rule, x: u64, y: u64) -> bool
+    ensures { λ r. ⌜ r ≡ leb (keyBy rule x) (keyBy rule y) ⌝ }
 {
     x <= y
 }
 
 // Whether an entry goes before the other run's head. At equality the first run's does.
-fn goes_before(first: bool, e: u64, head: u64) -> bool
-    ensures { λ r. ⌜ r ≡ goesBefore wholeWord first e head ⌝ }
+fn goes_before(rule: Rule, first: bool, e: u64, head: u64) -> bool
+    ensures { λ r. ⌜ r ≡ goesBefore (keyBy rule) first e head ⌝ }
 {
     if first {
-        return goes_first(e, head);
+        return goes_first(rule, e, head);
     }
-    !goes_first(head, e)
+    !goes_first(rule, head, e)
 }
 
 // How many entries at a run's front go before the other run's head: the look stops at the first that does not.
-fn lead(run: &[u64], head: u64, first: bool) -> usize
-    ensures { λ r. ⌜ r ≡ leading wholeWord first head (now (run .entry)) ⌝ }
+fn lead(rule: Rule, run: &[u64], head: u64, first: bool) -> usize
+    ensures { λ r. ⌜ r ≡ leading (keyBy rule) first head (now (run .entry)) ⌝ }
 {
     let mut ahead: usize = 0;
     while ahead < run.len() {
-        if !goes_before(first, run[ahead], head) {
+        if !goes_before(rule, first, run[ahead], head) {
             break;
         }
         ahead += 1;
@@ -46,16 +47,16 @@ fn shorter(x: usize, y: usize) -> usize
 }
 
 // Merge steps of two lent runs that have entries, until one ends or out is full. The heads stay in locals.
-fn merge_on(xs: &[u64], ys: &[u64], out: &mut [u64]) -> Run
+fn merge_on(rule: Rule, xs: &[u64], ys: &[u64], out: &mut [u64]) -> Run
     requires { ⌜ (0 < length (now xs)) × (0 < length (now ys)) ⌝ }
-    ensures { λ r. ⌜ Merges wholeWord (now (xs .entry)) (now (ys .entry)) (now (out .entry)) (now (out .exit)) 0 (length (now (out .entry))) (r .moved) (r .first) ⌝ }
+    ensures { λ r. ⌜ Merges (keyBy rule) (now (xs .entry)) (now (ys .entry)) (now (out .entry)) (now (out .exit)) 0 (length (now (out .entry))) (r .moved) (r .first) ⌝ }
 {
     let mut i: usize = 0;
     let mut j: usize = 0;
     let mut x = xs[0];
     let mut y = ys[0];
     while i + j < out.len() {
-        if goes_first(x, y) {
+        if goes_first(rule, x, y) {
             out[i + j] = x;
             i += 1;
             if i == xs.len() {
@@ -75,8 +76,8 @@ fn merge_on(xs: &[u64], ys: &[u64], out: &mut [u64]) -> Run
 }
 
 // Merge steps of two lent runs, until one ends or out is full. What of the first goes before the second's head is laid as one block, then what of the second goes before the first's next entry.
-fn merge_until(xs: &[u64], ys: &[u64], out: &mut [u64]) -> Run
-    ensures { λ r. ⌜ Merges wholeWord (now (xs .entry)) (now (ys .entry)) (now (out .entry)) (now (out .exit)) 0 (length (now (out .entry))) (r .moved) (r .first) ⌝ }
+fn merge_until(rule: Rule, xs: &[u64], ys: &[u64], out: &mut [u64]) -> Run
+    ensures { λ r. ⌜ Merges (keyBy rule) (now (xs .entry)) (now (ys .entry)) (now (out .entry)) (now (out .exit)) 0 (length (now (out .entry))) (r .moved) (r .first) ⌝ }
 {
     if xs.len() == 0 {
         return Run::of(0, 0);
@@ -85,32 +86,32 @@ fn merge_until(xs: &[u64], ys: &[u64], out: &mut [u64]) -> Run
         return Run::of(0, 0);
     }
     let n = shorter(xs.len(), out.len());
-    let i = lead(&xs[..n], ys[0], true);
+    let i = lead(rule, &xs[..n], ys[0], true);
     copy(&xs[..i], out);
     if i == n {
         return Run::of(i, i);
     }
     let m = shorter(ys.len(), out.len() - i);
-    let j = lead(&ys[..m], xs[i], false);
+    let j = lead(rule, &ys[..m], xs[i], false);
     lay(out, i, &ys[..j]);
     let t = i + j;
     if j == m {
         return Run::of(t, i);
     }
-    let more = merge_on(&xs[i..], &ys[j..], &mut out[t..]);
+    let more = merge_on(rule, &xs[i..], &ys[j..], &mut out[t..]);
     Run::of(t + more.moved, i + more.first)
 }
 
 // Merges as many entries as out has room for, and says how many are the first run's.
-pub fn part(xs: &[u64], ys: &[u64], out: &mut [u64]) -> usize
+pub fn part(rule: Rule, xs: &[u64], ys: &[u64], out: &mut [u64]) -> usize
     requires { ⌜ length (now out) ≤ length (now xs) + length (now ys) ⌝ }
-    ensures { λ r. ⌜ Parts wholeWord (now (xs .entry)) (now (ys .entry)) (now (out .entry)) (now (out .exit)) r ⌝ }
+    ensures { λ r. ⌜ Parts (keyBy rule) (now (xs .entry)) (now (ys .entry)) (now (out .entry)) (now (out .exit)) r ⌝ }
 {
     // Many buffers of a path are empty.
     if out.len() == 0 {
         return 0;
     }
-    let run = merge_until(xs, ys, out);
+    let run = merge_until(rule, xs, ys, out);
     let moved = run.moved;
     let first = run.first;
     let left = out.len() - moved;
@@ -129,11 +130,11 @@ pub fn part(xs: &[u64], ys: &[u64], out: &mut [u64]) -> usize
 }
 
 // Merges until one run ends, and hands back the unread rest of the run that outlasts the other, or the empty end of the first if both end together.
-pub fn join<'a>(xs: &'a [u64], ys: &'a [u64], out: &mut [u64]) -> &'a [u64]
-    requires { ⌜ untilEnd wholeWord (now xs) (now ys) ≤ length (now out) ⌝ }
-    ensures { λ r. ⌜ Joins wholeWord (xs .entry) (ys .entry) (now (out .entry)) (now (out .exit)) r ⌝ }
+pub fn join<'a>(rule: Rule, xs: &'a [u64], ys: &'a [u64], out: &mut [u64]) -> &'a [u64]
+    requires { ⌜ untilEnd (keyBy rule) (now xs) (now ys) ≤ length (now out) ⌝ }
+    ensures { λ r. ⌜ Joins (keyBy rule) (xs .entry) (ys .entry) (now (out .entry)) (now (out .exit)) r ⌝ }
 {
-    let run = merge_until(xs, ys, out);
+    let run = merge_until(rule, xs, ys, out);
     let first = run.first;
     let second = run.moved - first;
     if second < ys.len() {
@@ -178,6 +179,7 @@ impl Run {
 
 // Merge steps of two inputs that have entries. The heads stay in locals: a step reads one word and writes one.
 fn merge_heads(
+    rule: Rule,
     a: &mut [u64],
     out: usize,
     one: usize,
@@ -187,7 +189,7 @@ fn merge_heads(
     room: usize,
 ) -> Run
     requires { ⌜ Heads (now a) out one «one_end» two «two_end» room ⌝ }
-    ensures { λ r. ⌜ Merges wholeWord (stretch one «one_end» (now (a .entry))) (stretch two «two_end» (now (a .entry))) (now (a .entry)) (now (a .exit)) out room (r .moved) (r .first) ⌝ }
+    ensures { λ r. ⌜ Merges (keyBy rule) (stretch one «one_end» (now (a .entry))) (stretch two «two_end» (now (a .entry))) (now (a .entry)) (now (a .exit)) out room (r .moved) (r .first) ⌝ }
 {
     let mut k = out;
     let mut i = one;
@@ -195,7 +197,7 @@ fn merge_heads(
     let mut x = a[i];
     let mut y = a[j];
     while k < out + room {
-        if goes_first(x, y) {
+        if goes_first(rule, x, y) {
             a[k] = x;
             k += 1;
             i += 1;
@@ -218,6 +220,7 @@ fn merge_heads(
 
 // Merge steps inside one array, until an input is empty or the room is used up.
 pub fn merge_run(
+    rule: Rule,
     a: &mut [u64],
     out: usize,
     one: usize,
@@ -227,7 +230,7 @@ pub fn merge_run(
     room: usize,
 ) -> Run
     requires { ⌜ Stretches (now a) out one «one_end» two «two_end» room ⌝ }
-    ensures { λ r. ⌜ Merges wholeWord (stretch one «one_end» (now (a .entry))) (stretch two «two_end» (now (a .entry))) (now (a .entry)) (now (a .exit)) out room (r .moved) (r .first) ⌝ }
+    ensures { λ r. ⌜ Merges (keyBy rule) (stretch one «one_end» (now (a .entry))) (stretch two «two_end» (now (a .entry))) (now (a .entry)) (now (a .exit)) out room (r .moved) (r .first) ⌝ }
 {
     if one == one_end {
         return Run::of(0, 0);
@@ -235,7 +238,7 @@ pub fn merge_run(
     if two == two_end {
         return Run::of(0, 0);
     }
-    merge_heads(a, out, one, one_end, two, two_end, room)
+    merge_heads(rule, a, out, one, one_end, two, two_end, room)
 }
 
 // Merge steps inside one array where only one input has entries: so many of them move.

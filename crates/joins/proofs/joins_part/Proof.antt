@@ -3,7 +3,6 @@ use native.Mathlib.Omega.{arith}
 use mathlib.Core.Logic.{⊎-elim}
 use Prim.Native.Nat.{_+_, _≤_}
 use lib.ListN.{length}
-use Rattle.rules.specs.Entries.{wholeWord}
 use Rattle.joins.proofs.LentLaws.{not-parted, parted}
 use borrow.Author.Needs.{needs}
 use Rattle.joins.proofs.joins_part.Statement.{statement}
@@ -13,7 +12,7 @@ sub-if2 : tie.Need-sub-if2
 sub-if2 c = search needs
 
 returns : tie.Need-returns
-returns c = not-parted wholeWord _ _ _ (omega arith)
+returns c = not-parted _ _ _ _ (omega arith)
 
 -- both ways to the call say it
 enough : (c : tie.Joined1) → let s = c .before .before .before .before .args in length (s .out .now) ≤ length (s .xs .now) + length (s .ys .now)
@@ -26,7 +25,7 @@ same-length : tie.Need-same-length
 same-length c = search needs
 
 returns-2 : tie.Need-returns-2
-returns-2 c = parted wholeWord (c .before .before .part .ensures) (enough (c .before .before .before .before))
+returns-2 c = parted _ (c .before .before .part .ensures) (enough (c .before .before .before .before))
 
 pub joins-part-spec : {M : Type 1} → statement M
 joins-part-spec = tie.close (tie.spec sub-if2 returns part-requires same-length returns-2)

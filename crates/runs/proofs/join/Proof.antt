@@ -1,7 +1,6 @@
 -- Where a run has ended, the rest of the other is handed back.
 use mathlib.Core.Path.{refl}
 use native.Mathlib.Omega.{arith}
-use Rattle.rules.specs.Entries.{wholeWord}
 use Rattle.runs.proofs.EndLaws.{joins-first, joins-second}
 use borrow.Author.Needs.{needs}
 use Rattle.runs.proofs.join.Statement.{statement}
@@ -31,7 +30,7 @@ same-length c = search needs
 returns : tie.Need-returns
 returns c =
     let m = c .before .before .before .before .before in
-    joins-second wholeWord (m .merge-until .ensures) (m .before .before .before .before .before .pre) (omega (arith, c .before .if1 .taken)) _ refl refl
+    joins-second _ (m .merge-until .ensures) (m .before .before .before .before .before .pre) (omega (arith, c .before .if1 .taken)) _ refl refl
 
 mul-result-2 : tie.Need-mul-result-2
 mul-result-2 c = search needs
@@ -51,7 +50,7 @@ same-length-2 c = search needs
 returns-2 : tie.Need-returns-2
 returns-2 c =
     let m = c .before .before .before .before .before in
-    joins-first wholeWord (m .merge-until .ensures) (m .before .before .before .before .before .pre) (omega (arith, c .before .if1 .left)) _ refl refl
+    joins-first _ (m .merge-until .ensures) (m .before .before .before .before .before .pre) (omega (arith, c .before .if1 .left)) _ refl refl
 
 pub join-spec : {M : Type 1} → statement M
 join-spec =

@@ -4,16 +4,16 @@ use mathlib.Core.Logic.{⊎-elim}
 use native.Mathlib.Omega.{arith}
 use Prim.Native.Nat.{_+_, _-_}
 use lib.ListN.{length}
-use Rattle.rules.specs.Entries.{wholeWord}
+use Rattle.rules.specs.Entries.{keyBy}
 use Rattle.runs.proofs.LentLaws.{AtBoth, both-start, both-first, both-second, next-first, next-second, Over, over-at, over-first, over-second, over-full}
 use Rattle.runs.proofs.merge_on.Statement.{statement}
 use Rattle.runs.proofs.merge_on.Tie as tie
 
 abbrev Inv-loop : tie.InvT-loop
-Inv-loop xs ys out₀ i₀ j₀ x₀ y₀ out i j x y = AtBoth wholeWord xs ys out₀ out i j x y
+Inv-loop rule xs ys out₀ i₀ j₀ x₀ y₀ out i j x y = AtBoth (keyBy rule) xs ys out₀ out i j x y
 
 abbrev μ-loop : tie.MeasureT-loop
-μ-loop xs ys out₀ i₀ j₀ x₀ y₀ out i j x y = length out₀ - (i + j)
+μ-loop rule xs ys out₀ i₀ j₀ x₀ y₀ out i j x y = length out₀ - (i + j)
 
 shared-slice-read-x : tie.Need-shared-slice-read-x Inv-loop μ-loop
 shared-slice-read-x c = c .before .before .before .before .pre .0
@@ -22,7 +22,7 @@ shared-slice-read-y : tie.Need-shared-slice-read-y Inv-loop μ-loop
 shared-slice-read-y c = c .before .before .before .before .before .pre .1
 
 loop-holds : tie.Need-loop-holds Inv-loop μ-loop
-loop-holds c = let s = c .before .before .before .before .before in both-start wholeWord _ _ _ (s .pre .0) (s .pre .1)
+loop-holds c = let s = c .before .before .before .before .before in both-start _ _ _ _ (s .pre .0) (s .pre .1)
 
 add-loop : tie.Need-add-loop Inv-loop μ-loop
 add-loop c = omega arith
@@ -54,7 +54,7 @@ loop-less c = omega arith
 loop-again : tie.Need-loop-again Inv-loop μ-loop
 loop-again c =
     let g = c .before .before .before in
-    next-first wholeWord (g .before .before .loop .inv) (omega arith) (sym (g .goes-first .ensures) ∙ c .before .before .if1 .taken) (c .before .if2 .left)
+    next-first _ (g .before .before .loop .inv) (omega arith) (sym (g .goes-first .ensures) ∙ c .before .before .if1 .taken) (c .before .if2 .left)
 
 add-out-2 : tie.Need-add-out-2 Inv-loop μ-loop
 add-out-2 c = omega arith
@@ -80,21 +80,21 @@ loop-less-2 c = omega arith
 loop-again-2 : tie.Need-loop-again-2 Inv-loop μ-loop
 loop-again-2 c =
     let g = c .before .before .before in
-    next-second wholeWord (g .before .before .loop .inv) (omega arith) (sym (g .goes-first .ensures) ∙ c .before .before .if1 .left) (c .before .if3 .left)
+    next-second _ (g .before .before .loop .inv) (omega arith) (sym (g .goes-first .ensures) ∙ c .before .before .if1 .left) (c .before .if3 .left)
 
 abbrev start : tie.Left-loop Inv-loop μ-loop → tie.Start Inv-loop μ-loop
 start c = c .before .before .before .before .before .before .before
 
 -- the three ways out of the loop
-ended : (c : tie.Left-loop Inv-loop μ-loop) → let s = start c .args in let l = c .loop-test in Over wholeWord (s .xs .now) (s .ys .now) (s .out .now) (l .out) (l .i + l .j) (l .i)
+ended : (c : tie.Left-loop Inv-loop μ-loop) → let s = start c .args in let l = c .loop-test in Over (keyBy (s .rule)) (s .xs .now) (s .ys .now) (s .out .now) (l .out) (l .i + l .j) (l .i)
 ended c =
     let h = c .before .loop .inv in
     let sized = h .run .laying .sized in
     ⊎-elim
-    (λ w. over-at wholeWord (w .1) (w .2) (w .3) (over-full wholeWord (h .run) (omega (arith, sized, w .0 .left))))
+    (λ w. over-at _ (w .1) (w .2) (w .3) (over-full _ (h .run) (omega (arith, sized, w .0 .left))))
     (⊎-elim
-    (λ w. over-at wholeWord (w .4) (w .5) (w .6) (over-first wholeWord (both-first wholeWord h (omega (arith, sized, w .0 .taken)) (sym (w .1 .ensures) ∙ w .2 .taken)) (omega (arith, w .3 .taken))))
-    (λ w. over-at wholeWord (w .4) (w .5) (w .6) (over-second wholeWord (both-second wholeWord h (omega (arith, sized, w .0 .taken)) (sym (w .1 .ensures) ∙ w .2 .left)) (omega (arith, w .3 .taken)))))
+    (λ w. over-at _ (w .4) (w .5) (w .6) (over-first _ (both-first _ h (omega (arith, sized, w .0 .taken)) (sym (w .1 .ensures) ∙ w .2 .taken)) (omega (arith, w .3 .taken))))
+    (λ w. over-at _ (w .4) (w .5) (w .6) (over-second _ (both-second _ h (omega (arith, sized, w .0 .taken)) (sym (w .1 .ensures) ∙ w .2 .left)) (omega (arith, w .3 .taken)))))
     (c .loop-test .came)
 
 add-of : tie.Need-add-of Inv-loop μ-loop

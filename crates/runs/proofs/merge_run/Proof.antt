@@ -1,5 +1,4 @@
 -- An input that is empty ends the run before its first step.
-use Rattle.rules.specs.Entries.{wholeWord}
 use Rattle.runs.proofs.ArrayLaws.{one-empty, two-empty}
 use borrow.Author.Needs.{needs}
 use Rattle.runs.proofs.merge_run.Statement.{statement}
@@ -9,13 +8,13 @@ of-requires : tie.Need-of-requires
 of-requires c κs = search needs
 
 returns : tie.Need-returns
-returns c = rw (c .of .ensures .0, c .of .ensures .1) (one-empty wholeWord _ _ _ _ _ _ _ (c .before .before .before .pre) (c .before .if1 .taken))
+returns c = rw (c .of .ensures .0, c .of .ensures .1) (one-empty _ _ _ _ _ _ _ _ (c .before .before .before .pre) (c .before .if1 .taken))
 
 of-requires-2 : tie.Need-of-requires-2
 of-requires-2 c κs = search needs
 
 returns-2 : tie.Need-returns-2
-returns-2 c = rw (c .of2 .ensures .0, c .of2 .ensures .1) (two-empty wholeWord _ _ _ _ _ _ _ (c .before .before .before .before .pre) (c .before .if2 .taken))
+returns-2 c = rw (c .of2 .ensures .0, c .of2 .ensures .1) (two-empty _ _ _ _ _ _ _ _ (c .before .before .before .before .pre) (c .before .if2 .taken))
 
 merge-heads-requires : tie.Need-merge-heads-requires
 merge-heads-requires c κs = search needs

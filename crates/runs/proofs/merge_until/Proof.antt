@@ -10,7 +10,7 @@ use mir.Val.{Fits}
 use mir.Facts.{fits-le}
 use lib.ListN.{length, take, drop}
 use lib.Seq.{length-take-le}
-use Rattle.rules.specs.Entries.{wholeWord}
+use Rattle.rules.specs.Entries.{keyBy}
 use Rattle.runs.specs.Promises.{laidAt, Merges}
 use Rattle.runs.proofs.LayingLaws.{rest-has}
 use Rattle.runs.proofs.RunningLaws.{Running}
@@ -54,15 +54,15 @@ lengths-fit c = (omega arith, omega arith)
 
 -- the first run's block fits, and with it so many merge steps are laid
 block : (c : tie.After-lead) → let s = start c .args in let i = c .lead .result in
-    (i ≤ c .before .before .before .shorter .result) × Running wholeWord (s .xs .now) (s .ys .now) (s .out .now) (laidAt (s .out .now) 0 (take i (s .xs .now))) 0 (length (s .out .now)) i i
-block c = led-first wholeWord _ _ _ _ _ (omega arith) (c .before .before .before .shorter .ensures) (c .lead .ensures)
+    (i ≤ c .before .before .before .shorter .result) × Running (keyBy (s .rule)) (s .xs .now) (s .ys .now) (s .out .now) (laidAt (s .out .now) 0 (take i (s .xs .now))) 0 (length (s .out .now)) i i
+block c = led-first _ _ _ _ _ _ (omega arith) (c .before .before .before .shorter .ensures) (c .lead .ensures)
 
 block-fits : (c : tie.After-lead) → let s = start c .args in let i = c .lead .result in (length (take i (s .xs .now)) ≡ i) × (i ≤ length (s .out .now))
 block-fits c = let few = block c .0 in let n = c .before .before .before .shorter .ensures in (length-take-le _ _ (omega (arith, few, n)), omega (arith, few, n))
 
 laid : (c : tie.After-copy) → let s = start (first c) .args in let i = first c .lead .result in
-    Running wholeWord (s .xs .now) (s .ys .now) (s .out .now) (c .copy .last .1 .0) 0 (length (s .out .now)) i i
-laid c = run-at wholeWord (c .copy .ensures) (block (first c) .1)
+    Running (keyBy (s .rule)) (s .xs .now) (s .ys .now) (s .out .now) (c .copy .last .1 .0) 0 (length (s .out .now)) i i
+laid c = run-at _ (c .copy .ensures) (block (first c) .1)
 
 -- the look stopped inside the first run, and out has room left
 inside : (c : tie.Else3) → let l = first (copied c) in let s = start l .args in (l .lead .result < length (s .xs .now)) × (l .lead .result < length (s .out .now))
@@ -77,15 +77,15 @@ room-two c = omega (arith, laid (copied (stopped c)) .laying .sized, c .before .
 
 -- the second run's block fits behind the first's, and with it so many merge steps are laid
 block-two : (c : tie.After-lead2) → let l = one c in let s = start l .args in let i = l .lead .result in let j = c .lead2 .result in
-    (j ≤ c .before .before .before .shorter2 .result) × Running wholeWord (s .xs .now) (s .ys .now) (s .out .now) (laidAt (copied (stopped c) .copy .last .1 .0) i (take j (s .ys .now))) 0 (length (s .out .now)) (i + j) i
-block-two c = led-second wholeWord (laid (copied (stopped c))) _ _ (inside (stopped c) .0) (room-two c) (c .lead2 .ensures)
+    (j ≤ c .before .before .before .shorter2 .result) × Running (keyBy (s .rule)) (s .xs .now) (s .ys .now) (s .out .now) (laidAt (copied (stopped c) .copy .last .1 .0) i (take j (s .ys .now))) 0 (length (s .out .now)) (i + j) i
+block-two c = led-second _ (laid (copied (stopped c))) _ _ (inside (stopped c) .0) (room-two c) (c .lead2 .ensures)
 
 block-two-fits : (c : tie.After-lead2) → length (take (c .lead2 .result) (start (one c) .args .ys .now)) ≡ c .lead2 .result
 block-two-fits c = length-take-le _ _ (omega (arith, block-two c .0, c .before .before .before .shorter2 .ensures))
 
 laid-two : (c : tie.After-lay) → let m = second c in let l = one m in let s = start l .args in
-    Running wholeWord (s .xs .now) (s .ys .now) (s .out .now) (c .lay .last .0) 0 (length (s .out .now)) (l .lead .result + m .lead2 .result) (l .lead .result)
-laid-two c = run-at wholeWord (c .lay .ensures) (block-two (second c) .1)
+    Running (keyBy (s .rule)) (s .xs .now) (s .ys .now) (s .out .now) (c .lay .last .0) 0 (length (s .out .now)) (l .lead .result + m .lead2 .result) (l .lead .result)
+laid-two c = run-at _ (c .lay .ensures) (block-two (second c) .1)
 
 -- both runs have entries left
 left : (c : tie.Else4) → let m = second (blocks c) in let l = one m in let s = start l .args in (l .lead .result < length (s .xs .now)) × (m .lead2 .result < length (s .ys .now))
@@ -93,8 +93,8 @@ left c = let m = second (blocks c) in (inside (stopped m) .0, omega (arith, bloc
 
 -- the rests are merged behind the blocks
 whole : (c : tie.After-merge-on) → let a = blocks (rests c) in let m = second a in let l = one m in let s = start l .args in let t = l .lead .result + m .lead2 .result in let w = a .lay .last .0 in
-    Merges wholeWord (s .xs .now) (s .ys .now) (s .out .now) (take t w ++ (c .merge-on .last .1 .1 .0 ++ drop (length w - t) (drop t w))) 0 (length (s .out .now)) (t + c .merge-on .result .moved) (l .lead .result + c .merge-on .result .first)
-whole c = led-on wholeWord _ _ (laid-two (blocks (rests c))) _ _ _ _ refl (c .merge-on .ensures)
+    Merges (keyBy (s .rule)) (s .xs .now) (s .ys .now) (s .out .now) (take t w ++ (c .merge-on .last .1 .1 .1 .0 ++ drop (length w - t) (drop t w))) 0 (length (s .out .now)) (t + c .merge-on .result .moved) (l .lead .result + c .merge-on .result .first)
+whole c = led-on _ _ _ (laid-two (blocks (rests c))) _ _ _ _ refl (c .merge-on .ensures)
 
 -- ---- the needs
 
@@ -102,13 +102,13 @@ of-requires : tie.Need-of-requires
 of-requires c κs = search needs
 
 returns : tie.Need-returns
-returns c = rw (c .of .ensures .0, c .of .ensures .1) (none-first wholeWord _ _ _ (c .before .if1 .taken))
+returns c = rw (c .of .ensures .0, c .of .ensures .1) (none-first _ _ _ _ (c .before .if1 .taken))
 
 of-requires-2 : tie.Need-of-requires-2
 of-requires-2 c κs = search needs
 
 returns-2 : tie.Need-returns-2
-returns-2 c = rw (c .of2 .ensures .0, c .of2 .ensures .1) (none-second wholeWord _ _ _ (c .before .if2 .taken))
+returns-2 c = rw (c .of2 .ensures .0, c .of2 .ensures .1) (none-second _ _ _ _ (c .before .if2 .taken))
 
 shorter-requires : tie.Need-shorter-requires
 shorter-requires c κs = search needs
@@ -137,7 +137,7 @@ same-length c = search needs
 returns-3 : tie.Need-returns-3
 returns-3 c =
     let k = c .before .before .before .before in
-    rw (c .of3 .ensures .0, c .of3 .ensures .1) (first-over wholeWord (laid k) (first k .before .before .before .shorter .ensures) (c .before .if3 .taken))
+    rw (c .of3 .ensures .0, c .of3 .ensures .1) (first-over _ (laid k) (first k .before .before .before .shorter .ensures) (c .before .if3 .taken))
 
 sub-shorter : tie.Need-sub-shorter
 sub-shorter c = omega (arith, inside c .1, laid (copied c) .laying .sized)
@@ -177,7 +177,7 @@ same-length-2 c = search needs
 returns-4 : tie.Need-returns-4
 returns-4 c =
     let a = c .before .before .before .before in
-    rw (c .of4 .ensures .0, c .of4 .ensures .1) (second-over wholeWord (laid-two a) (room-two (second a)) (c .before .if4 .taken))
+    rw (c .of4 .ensures .0, c .of4 .ensures .1) (second-over _ (laid-two a) (room-two (second a)) (c .before .if4 .taken))
 
 mul-merge-on : tie.Need-mul-merge-on
 mul-merge-on c = omega (arith, left c .0)

@@ -1,12 +1,11 @@
 -- Where a run has ended and out is not full, the rest comes from the other.
-use Rattle.rules.specs.Entries.{wholeWord}
 use Rattle.runs.proofs.EndLaws.{parts-none, parts-full, first-inside, second-inside, parts-first, parts-second}
 use borrow.Author.Needs.{needs}
 use Rattle.runs.proofs.part.Statement.{statement}
 use Rattle.runs.proofs.part.Tie as tie
 
 returns : tie.Need-returns
-returns c = parts-none wholeWord _ _ _ (c .if1 .taken)
+returns c = parts-none _ _ _ _ (c .if1 .taken)
 
 merge-until-requires : tie.Need-merge-until-requires
 merge-until-requires c κs = search needs
@@ -18,7 +17,7 @@ same-length : tie.Need-same-length
 same-length c = search needs
 
 returns-2 : tie.Need-returns-2
-returns-2 c = parts-full wholeWord (c .before .before .before .merge-until .ensures) (c .if2 .taken)
+returns-2 c = parts-full _ (c .before .before .before .merge-until .ensures) (c .if2 .taken)
 
 add-end : tie.Need-add-end
 add-end c = search needs
@@ -36,7 +35,7 @@ part-lay-end : tie.Need-part-lay-end
 part-lay-end c =
     let e = c .before .before in
     let m = e .before .before .before in
-    first-inside wholeWord (m .merge-until .ensures) (m .before .before .before .before .before .before .pre) (e .if2 .left) (c .before .if3 .taken)
+    first-inside _ (m .merge-until .ensures) (m .before .before .before .before .before .before .pre) (e .if2 .left) (c .before .if3 .taken)
 
 lay-requires : tie.Need-lay-requires
 lay-requires c κs = search needs
@@ -49,7 +48,7 @@ returns-3 c =
     let t = c .before .before .before .before .before in
     let e = t .before in
     let m = e .before .before .before in
-    parts-first wholeWord (m .merge-until .ensures) (m .before .before .before .before .before .before .pre) (e .if2 .left) (t .if3 .taken) _ (c .before .before .lay .ensures)
+    parts-first _ (m .merge-until .ensures) (m .before .before .before .before .before .before .pre) (e .if2 .left) (t .if3 .taken) _ (c .before .before .lay .ensures)
 
 sub-second : tie.Need-sub-second
 sub-second c = search needs
@@ -70,7 +69,7 @@ part-lay-end-2 : tie.Need-part-lay-end-2
 part-lay-end-2 c =
     let e = c .before .before in
     let m = e .before .before .before in
-    second-inside wholeWord (m .merge-until .ensures) (m .before .before .before .before .before .before .pre) (e .if2 .left) (c .before .if3 .left)
+    second-inside _ (m .merge-until .ensures) (m .before .before .before .before .before .before .pre) (e .if2 .left) (c .before .if3 .left)
 
 lay-requires-2 : tie.Need-lay-requires-2
 lay-requires-2 c κs = search needs
@@ -83,7 +82,7 @@ returns-4 c =
     let t = c .before .before .before .before .before in
     let e = t .before in
     let m = e .before .before .before in
-    parts-second wholeWord (m .merge-until .ensures) (m .before .before .before .before .before .before .pre) (e .if2 .left) (t .if3 .left) _ (c .before .before .lay2 .ensures)
+    parts-second _ (m .merge-until .ensures) (m .before .before .before .before .before .before .pre) (e .if2 .left) (t .if3 .left) _ (c .before .before .lay2 .ensures)
 
 pub part-spec : {M : Type 1} → statement M
 part-spec =
