@@ -1,18 +1,17 @@
 -- Entries laid behind a buffer's last one, and then counted in.
-use Prim.Native.Nat.{ℕ, zero, suc, _+_, _-_, _≤_, _<_}
-use mathlib.Core.Path.{_≡_, refl, sym, ap, _∙_}
-use mathlib.Core.Logic.{_≢_, _⊎_, inl, inr, ⊎-elim}
-use mathlib.Core.List.{List, [], _∷_, _++_, append-assoc}
+use Prim.Native.Nat.{ℕ, _+_, _-_, _≤_, _<_}
+use mathlib.Core.Path.{_≡_, sym, ap, _∙_}
+use mathlib.Core.Logic.{_⊎_, inl, inr}
+use mathlib.Core.List.{List, [], _++_}
 use native.Mathlib.Omega.{arith}
 use native.Mathlib.Decide.{decLt}
-use native.Mathlib.Numerals.{add-one}
-use lib.ListN.{length, getD, take, drop, set, length-append, length-take, length-drop, length-set}
-use lib.Seq.{length-take-le, take-at, drop-at, take-add, drop-drop, take-append-le, take-append-seam, drop-append-seam, set-getD, take-suc, getD-drop}
-use Rattle.rules.specs.Tree.{Buffers}
+use lib.ListN.{length, take, drop, set}
+use lib.Seq.{length-take-le, drop-at, take-add, drop-drop, take-append-seam, set-getD}
+use Rattle.rules.specs.Links.{bookWords}
 use Rattle.buffers.specs.Slots.{base, capacityOf}
-use Rattle.buffers.specs.Format.{linksIn, wordOf, countOf, startOf, markOf, many, headOf, bufferOf, buffersOf}
-use Rattle.buffers.specs.Post.{Inside, Has, Only, Now, Kept, Growing}
-use Rattle.buffers.proofs.ArrayLaws.{has, buffer-length, entry-at, buffer-is, buffers-at, only-links, only-word, only-inside, only-now, only-kept}
+use Rattle.buffers.specs.Format.{wordOf, countOf, startOf, headOf, bufferOf, buffersOf}
+use Rattle.buffers.specs.Post.{Inside, Has, Only}
+use Rattle.buffers.proofs.ArrayLaws.{has, buffer-length, entry-at, buffer-is, buffers-at, only-links, only-inside, only-now}
 use Rattle.runs.specs.Promises.{laidAt}
 use Rattle.runs.proofs.LayingLaws.{length-laid, laid-outside}
 
@@ -48,7 +47,7 @@ module _ (ws : List ℕ) (n : ℕ) (es : List ℕ) (h : Has ws n) (room : startO
           past (yes low) = absurd (out (omega arith) (omega (arith, room)))
           past (no more) = omega arith
 
-  pub laid-word : (m : ℕ) → m < 61 → wordOf laid m ≡ wordOf ws m
+  pub laid-word : (m : ℕ) → 8 + m < bookWords → wordOf laid m ≡ wordOf ws m
   laid-word m few = laid-outside ws end es (8 + m) free (inl (omega (arith, h .behind)))
 
   laid-inside : Inside laid

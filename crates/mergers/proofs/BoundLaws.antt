@@ -8,7 +8,7 @@ use native.Mathlib.Nat.{max-le}
 use lib.Dec.{leb, leb→le}
 use lib.ListN.{length, getD, List·getD-eq-default}
 use Rattle.rules.specs.Tests.{every}
-use Rattle.rules.specs.Links.{LinkNumber, InLink}
+use Rattle.rules.specs.Links.{mostLinks, LinkNumber, InLink}
 use Rattle.rules.specs.Tree.{Buffers, Tree, exhausted, buffer, merger, heightOf, linksFrom}
 use Rattle.rules.specs.Fill.{fill}
 use Rattle.rules.specs.Take.{heldIn}
@@ -58,17 +58,17 @@ inputs-size : (n c : ℕ) (one two : Tree) → size (merger n c one two) ≤ 200
 unfolding size
 inputs-size n c one two p = (omega arith, omega arith)
 
-whole-size : (last : ℕ) {i : ℕ} → LinkNumber i → last ≤ 4 → size (subtree last i 0) ≤ 200
+whole-size : (last : ℕ) {i : ℕ} → LinkNumber i → last ≤ mostLinks → size (subtree last i 0) ≤ 200
 unfolding every size subtree linksFrom
 whole-size last {i} h high =
     leb→le (size (subtree last i 0)) 200
-    (every-at (λ last. leb (size (subtree last i 0)) 200) 0 5 (each-link (λ i. every (λ last. leb (size (subtree last i 0)) 200) 0 5) tt h) last (omega arith) (omega arith))
+    (every-at (λ last. leb (size (subtree last i 0)) 200) 0 (suc mostLinks) (each-link (λ i. every (λ last. leb (size (subtree last i 0)) 200) 0 (suc mostLinks)) tt h) last (omega arith) (omega arith))
 
-part-size : (last : ℕ) {i j : ℕ} → InLink i j → i ≤ last → last ≤ 4 → size (subtree last i j) ≤ 200
+part-size : (last : ℕ) {i j : ℕ} → InLink i j → i ≤ last → last ≤ mostLinks → size (subtree last i j) ≤ 200
 part-size last {i} {j} inside low high = everywhere (λ t. size t ≤ 200) inputs-size last (inside .link) low (whole-size last (inside .link) high) inside
 
 -- far below what 64 bits hold
-pub steps-few : (key : ℕ → ℕ) (ws : List ℕ) → Inside ws → (last : ℕ) {i j : ℕ} → InLink i j → i ≤ last → last ≤ 4 → Among (subtree last i j) (many ws)
+pub steps-few : (key : ℕ → ℕ) (ws : List ℕ) → Inside ws → (last : ℕ) {i j : ℕ} → InLink i j → i ≤ last → last ≤ mostLinks → Among (subtree last i j) (many ws)
     → fill key (subtree last i j) (buffersOf ws) .steps ≤ 4000000000
 steps-few key ws array last {i} {j} inside low high among =
     let t = subtree last i j in

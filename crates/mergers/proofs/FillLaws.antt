@@ -1,35 +1,34 @@
 -- Filling over the array: what a turn of the loop leaves, and what is known where the loop begins and ends.
-use Prim.Native.Nat.{ℕ, zero, suc, _+_, _-_, _*_, _≤_, _<_, min}
-use mathlib.Core.Path.{_≡_, refl, sym, ap, _∙_, subst}
+use Prim.Native.Nat.{ℕ, zero, suc, _+_, _-_, _≤_, _<_}
+use mathlib.Core.Path.{_≡_, refl, sym, ap, _∙_}
 use mathlib.Core.Logic.{_≢_, _⊎_, inl, inr, ⊎-elim}
 use mathlib.Core.Bool.{Bool, true, false}
-use mathlib.Core.List.{List, [], _∷_, _++_, append-nil}
+use mathlib.Core.List.{List, [], _++_}
 use native.Mathlib.Omega.{arith}
 use native.Mathlib.Decide.{decLt, ℕ-discrete}
 use borrow.Author.Tests.{eq-eqb, ne-eqb}
 use lib.ListN.{length, getD, take, drop, set, length-append}
 use lib.Seq.{set-getD, set-out, getD-set-same, getD-set-other}
-use Rattle.rules.specs.Entries.{wholeWord}
 use Rattle.rules.specs.Tests.{_and_}
 use Rattle.rules.specs.Merge.{Step, stop, move, Merged, mergeStep, merged}
 use Rattle.rules.specs.Tree.{Buffers, Tree, exhausted, buffer, merger, entries, put}
 use Rattle.rules.specs.Fill.{Filled, untouched, ifEmpty, fillRoom, fill}
 use Rattle.rules.specs.Take.{heldIn}
-use Rattle.rules.proofs.Numbers.{Stands, itself, output, in-first, in-second, Outside, apart-back, Among, joint, among-first, among-second}
-use Rattle.rules.proofs.Full.{Roomy, no-entries, none-entries}
+use Rattle.rules.proofs.Numbers.{Stands, itself, output, in-first, in-second, Outside, apart-back, Among, joint}
+use Rattle.rules.proofs.Full.{Roomy, no-entries}
 use Rattle.rules.proofs.Contents.{Contents}
 use Rattle.rules.proofs.Steps.{stepped}
-use Rattle.rules.proofs.Frame.{Frame, frame-put, fill-frame, view-apart, view-set}
-use Rattle.buffers.specs.Slots.{base, capacityOf}
-use Rattle.buffers.specs.Format.{linksIn, wordOf, countOf, startOf, markOf, countIn, startIn, markIn, many, headOf, bufferOf, buffersOf}
-use Rattle.buffers.specs.Post.{Inside, Has, Only, Now, Kept, Word}
+use Rattle.rules.proofs.Frame.{frame-put, view-apart, view-set}
+use Rattle.buffers.specs.Slots.{base}
+use Rattle.buffers.specs.Format.{wordOf, countOf, startOf, markOf, countIn, startIn, markIn, many, bufferOf, buffersOf}
+use Rattle.buffers.specs.Post.{Inside, Now, Kept, Word}
 use Rattle.buffers.proofs.ArrayLaws.{has, buffer-length, buffers-at, buffers-length, only-word, only-kept, kept-links, kept-then, kept-none}
 use Rattle.runs.proofs.MergeLaws.{andThen, reached, merged-suc, merged-one, length-out}
 use Rattle.mergers.specs.Moves.{runLength}
-use Rattle.mergers.specs.Post.{wanted, Ran, movedBy, mergedBy, seenIf, touchedIf, turnedBy}
-use Rattle.mergers.specs.Fills.{MarksRight, StandsIn, CanFill, Did}
+use Rattle.mergers.specs.Post.{wanted, Ran, seenIf, touchedIf, turnedBy}
+use Rattle.mergers.specs.Fills.{MarksRight, StandsIn, Did}
 use Rattle.mergers.proofs.RunLaws.{Shorter, shorter, skips, plus, filling, advanced, none-advanced, stored, stored-out}
-use Rattle.mergers.proofs.TurnLaws.{refilled, Ready, refilled-frame, turn-law, ready-run, ready-stop, one-ready, two-ready, many-now, run-within, run-most, run-none}
+use Rattle.mergers.proofs.TurnLaws.{refilled, Ready, refilled-frame, turn-law, ready-run, ready-stop, one-ready, two-ready, run-within, run-most, run-none}
 
 -- ---- standing in a tree, as a statement and as a case
 
@@ -145,15 +144,15 @@ pub record Input (b : Bool) (n : ℕ) (t : Tree) : Type 0 where
   pub counts : b ≡ true → IsTop n t
   pub else-none : b ≡ false → t ≡ exhausted
 
-module _ (ws : List ℕ) (array : Inside ws) (n : ℕ) (t : Tree) (marks : MarksRight ws t) where
-  pub left-alone : (b : Bool) → Input b n t → (b ≡ true → n < many ws) → b and wanted ws n ≡ false → Did ws ws t (refilled wholeWord t (buffersOf ws)) 0
+module _ (key : ℕ → ℕ) (ws : List ℕ) (array : Inside ws) (n : ℕ) (t : Tree) (marks : MarksRight ws t) where
+  pub left-alone : (b : Bool) → Input b n t → (b ≡ true → n < many ws) → b and wanted ws n ≡ false → Did ws ws t (refilled key t (buffersOf ws)) 0
   left-alone true input lt w =
       let top = input .counts refl in
-      did-nothing ws t array marks (refilled wholeWord t (buffersOf ws)) (skips wholeWord t (buffersOf ws) (not-wanted ws array n (lt refl) t top w marks))
-  left-alone false input lt w = did-nothing ws t array marks (refilled wholeWord t (buffersOf ws)) (skips wholeWord t (buffersOf ws) (inr (exhausted-held t (buffersOf ws) (input .else-none refl))))
+      did-nothing ws t array marks (refilled key t (buffersOf ws)) (skips key t (buffersOf ws) (not-wanted ws array n (lt refl) t top w marks))
+  left-alone false input lt w = did-nothing ws t array marks (refilled key t (buffersOf ws)) (skips key t (buffersOf ws) (inr (exhausted-held t (buffersOf ws) (input .else-none refl))))
 
-  pub filled-now : (b : Bool) → Input b n t → (b ≡ true → n < many ws) → b and wanted ws n ≡ true → (ws′ : List ℕ) (x : ℕ) → Did ws ws′ t (fill wholeWord t (buffersOf ws)) x
-      → Did ws ws′ t (refilled wholeWord t (buffersOf ws)) x
+  pub filled-now : (b : Bool) → Input b n t → (b ≡ true → n < many ws) → b and wanted ws n ≡ true → (ws′ : List ℕ) (x : ℕ) → Did ws ws′ t (fill key t (buffersOf ws)) x
+      → Did ws ws′ t (refilled key t (buffersOf ws)) x
   unfolding ifEmpty
   filled-now true input lt w ws′ x did = rw (is-wanted ws array n (lt refl) t (input .counts refl) w) did
   filled-now false input lt w ws′ x did = let z : _≡_ {A = ℕ} 0 1 = cc in absurd (omega arith)
@@ -203,7 +202,7 @@ module _ (n c : ℕ) (one two : Tree) (bs : Buffers) (among : Among (merger n c 
 -- ---- one merger
 
 -- where filling stands: so many entries in the output, so many steps made; the rest of the filling, from here, is the rest of the rules'
-pub record Filling (n c : ℕ) (one two : Tree) (ws₀ ws : List ℕ) (filled steps : ℕ) : Type 0 where
+pub record Filling (key : ℕ → ℕ) (n c : ℕ) (one two : Tree) (ws₀ ws : List ℕ) (filled steps : ℕ) : Type 0 where
   pub array : Inside ws
   pub kept : Kept ws₀ ws
   pub others : (m : ℕ) → m < many ws₀ → (StandsIn m (merger n c one two) → ⊥) → wordOf ws m ≡ wordOf ws₀ m
@@ -213,7 +212,7 @@ pub record Filling (n c : ℕ) (one two : Tree) (ws₀ ws : List ℕ) (filled st
   pub marks-one : MarksRight ws one
   pub marks-two : MarksRight ws two
   pub within : filled ≤ c
-  pub law : fill wholeWord (merger n c one two) (buffersOf ws₀) ≡ plus steps (filling wholeWord n c one two (c - filled) (buffersOf ws))
+  pub law : fill key (merger n c one two) (buffersOf ws₀) ≡ plus steps (filling key n c one two (c - filled) (buffersOf ws))
 
 -- words that are the same have the same marks, and the same buffers the same lengths
 marks-same : (t : Tree) (ws ws′ : List ℕ) → ((m : ℕ) → Stands m t → wordOf ws′ m ≡ wordOf ws m) → ((m : ℕ) → Stands m t → getD (buffersOf ws′) m [] ≡ getD (buffersOf ws) m [])
@@ -225,9 +224,9 @@ module _ (n c : ℕ) (one two : Tree) (ws₀ : List ℕ) (among₀ : Among (merg
   below₀ m s = among₀ .less m s
 
   -- the output starts again at its first slot
-  pub begin : Inside ws₀ → (ws : List ℕ) → countOf ws₀ n ≡ 0 → MarksRight ws₀ (merger n c one two) → Now ws₀ ws n (take 0 (drop (base n) ws₀)) → Word ws n 0 0 → Filling n c one two ws₀ ws 0 0
+  pub begin : {key : ℕ → ℕ} → Inside ws₀ → (ws : List ℕ) → countOf ws₀ n ≡ 0 → MarksRight ws₀ (merger n c one two) → Now ws₀ ws n (take 0 (drop (base n) ws₀)) → Word ws n 0 0 → Filling key n c one two ws₀ ws 0 0
   unfolding fill
-  begin array₀ ws none marks z w =
+  begin {key} array₀ ws none marks z w =
       let h = has ws₀ n array₀ (below₀ n output) in
       let empty : bufferOf ws₀ n ≡ [] = no-entries (bufferOf ws₀ n) (buffer-length ws₀ n h ∙ none) in
       let top : getD (buffersOf ws₀) n [] ≡ [] = buffers-at ws₀ n (below₀ n output) ∙ empty in
@@ -246,7 +245,7 @@ module _ (n c : ℕ) (one two : Tree) (ws₀ : List ℕ) (among₀ : Among (merg
         marks-two = marks-same two ws₀ ws (λ m s. words m (λ e. joint among₀ .out-two (rw e at s)) (below₀ m (in-second s))) (λ m s. ap (λ bs. getD bs m []) state) (marks .2);
         within = omega arith;
         law =
-            let f = filling wholeWord n c one two (c - 0) (buffersOf ws₀) in
+            let f = filling key n c one two (c - 0) (buffersOf ws₀) in
             let none-more : f .steps ≡ 0 + f .steps = omega arith in
             rw (top, state) (λ i. record { buffers = f .buffers; steps = none-more i });
       }
@@ -259,14 +258,14 @@ module _ (n c : ℕ) (one two : Tree) (ws₀ : List ℕ) (among₀ : Among (merg
       z .state ∙ ap (set (buffersOf ws₀) n) (sym top) ∙ set-getD (buffersOf ws₀) n []
 
   -- filling the first input does not touch the second
-  pub beside : {ws wsA : List ℕ} {x : ℕ} → many ws ≡ many ws₀ → Did ws wsA one (refilled wholeWord one (buffersOf ws)) x → MarksRight ws two → MarksRight wsA two
-  beside {ws} {wsA} same a marks =
+  pub beside : (key : ℕ → ℕ) {ws wsA : List ℕ} {x : ℕ} → many ws ≡ many ws₀ → Did ws wsA one (refilled key one (buffersOf ws)) x → MarksRight ws two → MarksRight wsA two
+  beside key {ws} {wsA} same a marks =
       marks-same two ws wsA (λ m s. a .others m (rw same (below₀ m (in-second s))) (λ r. joint among₀ .apart m (in-stands m one r) s))
-      (λ m s. ap (λ bs. getD bs m []) (a .state) ∙ refilled-frame wholeWord one (buffersOf ws) .same m (λ r. joint among₀ .apart m r s)) marks
+      (λ m s. ap (λ bs. getD bs m []) (a .state) ∙ refilled-frame key one (buffersOf ws) .same m (λ r. joint among₀ .apart m r s)) marks
 
   -- both inputs have been filled where they were empty
-  module _ (roomy-one : Roomy one) (roomy-two : Roomy two) {ws wsA wsB : List ℕ} {filled steps x y : ℕ} (f : Filling n c one two ws₀ ws filled steps) (more : filled < c)
-      (a : Did ws wsA one (refilled wholeWord one (buffersOf ws)) x) (b : Did wsA wsB two (refilled wholeWord two (buffersOf wsA)) y) where
+  module _ {key : ℕ → ℕ} (roomy-one : Roomy one) (roomy-two : Roomy two) {ws wsA wsB : List ℕ} {filled steps x y : ℕ} (f : Filling key n c one two ws₀ ws filled steps) (more : filled < c)
+      (a : Did ws wsA one (refilled key one (buffersOf ws)) x) (b : Did wsA wsB two (refilled key two (buffersOf wsA)) y) where
     same-many : many ws ≡ many ws₀
     same-many = rw (kept-links (f .kept))
 
@@ -279,17 +278,17 @@ module _ (n c : ℕ) (one two : Tree) (ws₀ : List ℕ) (among₀ : Among (merg
     among : Among (merger n c one two) (length (buffersOf ws))
     among = rw long among₀
 
-    first-is : buffersOf wsA ≡ refilled wholeWord one (buffersOf ws) .buffers
+    first-is : buffersOf wsA ≡ refilled key one (buffersOf ws) .buffers
     first-is = a .state
 
-    pub now-is : buffersOf wsB ≡ refilled wholeWord two (refilled wholeWord one (buffersOf ws) .buffers) .buffers
-    now-is = b .state ∙ ap (λ bs. refilled wholeWord two bs .buffers) first-is
+    pub now-is : buffersOf wsB ≡ refilled key two (refilled key one (buffersOf ws) .buffers) .buffers
+    now-is = b .state ∙ ap (λ bs. refilled key two bs .buffers) first-is
 
     pub ready-one : Ready one (buffersOf wsB)
-    ready-one = rw now-is (one-ready wholeWord n c one two roomy-one roomy-two (buffersOf ws) among)
+    ready-one = rw now-is (one-ready key n c one two roomy-one roomy-two (buffersOf ws) among)
 
     pub ready-two : Ready two (buffersOf wsB)
-    ready-two = rw now-is (two-ready wholeWord n c one two roomy-one roomy-two (buffersOf ws) among)
+    ready-two = rw now-is (two-ready key n c one two roomy-one roomy-two (buffersOf ws) among)
 
     out-one : StandsIn n one → ⊥
     out-one s = joint among₀ .out-one (in-stands n one s)
@@ -300,10 +299,10 @@ module _ (n c : ℕ) (one two : Tree) (ws₀ : List ℕ) (among₀ : Among (merg
     word-same : wordOf wsB n ≡ wordOf ws n
     word-same = b .others n (rw same-manyA (below₀ n output)) out-two ∙ a .others n (rw same-many (below₀ n output)) out-one
 
-    steps-are : x + y ≡ refilled wholeWord one (buffersOf ws) .steps + refilled wholeWord two (refilled wholeWord one (buffersOf ws) .buffers) .steps
-    steps-are = let q : y ≡ refilled wholeWord two (refilled wholeWord one (buffersOf ws) .buffers) .steps = b .count ∙ ap (λ bs. refilled wholeWord two bs .steps) first-is in omega (arith, a .count)
+    steps-are : x + y ≡ refilled key one (buffersOf ws) .steps + refilled key two (refilled key one (buffersOf ws) .buffers) .steps
+    steps-are = let q : y ≡ refilled key two (refilled key one (buffersOf ws) .buffers) .steps = b .count ∙ ap (λ bs. refilled key two bs .steps) first-is in omega (arith, a .count)
 
-    pub refilled-both : Filling n c one two ws₀ wsB filled (steps + x + y)
+    pub refilled-both : Filling key n c one two ws₀ wsB filled (steps + x + y)
     refilled-both = record {
       array = b .array;
       kept = kept-then (f .kept) (kept-then (a .kept) (b .kept));
@@ -314,21 +313,21 @@ module _ (n c : ℕ) (one two : Tree) (ws₀ : List ℕ) (among₀ : Among (merg
       mark = ap markIn word-same ∙ f .mark;
       marks-one =
           marks-same one wsA wsB (λ m s. b .others m (rw same-manyA (below₀ m (in-first s))) (λ r. joint among₀ .apart m s (in-stands m two r)))
-          (λ m s. ap (λ bs. getD bs m []) (b .state) ∙ refilled-frame wholeWord two (buffersOf wsA) .same m (joint among₀ .apart m s)) (a .marks);
+          (λ m s. ap (λ bs. getD bs m []) (b .state) ∙ refilled-frame key two (buffersOf wsA) .same m (joint among₀ .apart m s)) (a .marks);
       marks-two = b .marks;
       within = f .within;
-      law = f .law ∙ ap (plus steps) (turned (c - filled) (omega arith)) ∙ regroup (filling wholeWord n c one two (c - filled) (buffersOf wsB));
+      law = f .law ∙ ap (plus steps) (turned (c - filled) (omega arith)) ∙ regroup (filling key n c one two (c - filled) (buffersOf wsB));
     }
       where
-        turned : (room : ℕ) → 0 < room → filling wholeWord n c one two room (buffersOf ws) ≡ plus (x + y) (filling wholeWord n c one two room (buffersOf wsB))
+        turned : (room : ℕ) → 0 < room → filling key n c one two room (buffersOf ws) ≡ plus (x + y) (filling key n c one two room (buffersOf wsB))
         turned zero some = absurd (omega arith)
-        turned (suc room) some = rw (steps-are, now-is) (turn-law wholeWord n c one two roomy-one roomy-two (buffersOf ws) among room)
+        turned (suc room) some = rw (steps-are, now-is) (turn-law key n c one two roomy-one roomy-two (buffersOf ws) among room)
 
         regroup : (z : Filled) → plus steps (plus (x + y) z) ≡ plus (steps + x + y) z
         regroup z = let e : steps + (x + y + z .steps) ≡ steps + x + y + z .steps = omega arith in λ i. record { buffers = z .buffers; steps = e i }
 
   -- a run of merge steps has been made
-  module _ (roomy-one : Roomy one) (roomy-two : Roomy two) (n₁ n₂ : ℕ) (b : Bool) (top-one : IsTop n₁ one) (input-two : Input b n₂ two) {ws : List ℕ} {filled steps : ℕ} (f : Filling n c one two ws₀ ws filled steps)
+  module _ {key : ℕ → ℕ} (roomy-one : Roomy one) (roomy-two : Roomy two) (n₁ n₂ : ℕ) (b : Bool) (top-one : IsTop n₁ one) (input-two : Input b n₂ two) {ws : List ℕ} {filled steps : ℕ} (f : Filling key n c one two ws₀ ws filled steps)
       (ready-one : Ready one (buffersOf ws)) (ready-two : Ready two (buffersOf ws)) where
     manyR : many ws ≡ many ws₀
     manyR = rw (kept-links (f .kept))
@@ -350,27 +349,27 @@ module _ (n c : ℕ) (one two : Tree) (ws₀ : List ℕ) (among₀ : Among (merg
     out-seen : bufferOf ws n ≡ getD (buffersOf ws) n []
     out-seen = sym (buffers-at ws n (belowR n output))
 
-    turned-is : (b : Bool) → Input b n₂ two → (m : ℕ) → turnedBy b m ws n n₁ n₂ ≡ advanced wholeWord n c one two m (buffersOf ws)
+    turned-is : (b : Bool) → Input b n₂ two → (m : ℕ) → turnedBy key b m ws n n₁ n₂ ≡ advanced key n c one two m (buffersOf ws)
     unfolding advanced stored
     turned-is true input m =
         let top = input .counts refl in
-        let z = merged wholeWord m (entries one (buffersOf ws)) (entries two (buffersOf ws)) in
+        let z = merged key m (entries one (buffersOf ws)) (entries two (buffersOf ws)) in
         let up = set (buffersOf ws) n (getD (buffersOf ws) n [] ++ z .out) in
         rw (one-seen, two-seen true input, out-seen)
         (sym (top-put n₂ two top (z .two) (put one (z .one) up) ∙ ap (λ bs. set bs n₂ (z .two)) (top-put n₁ one top-one (z .one) up)))
     turned-is false input m =
         let xs = entries one (buffersOf ws) in
-        let z : merged wholeWord m xs (entries two (buffersOf ws)) ≡ reached (take m xs) (drop m xs) [] = rw (← two-seen false input) (merged-one wholeWord m xs) in
+        let z : merged key m xs (entries two (buffersOf ws)) ≡ reached (take m xs) (drop m xs) [] = rw (← two-seen false input) (merged-one key m xs) in
         let up = set (buffersOf ws) n (getD (buffersOf ws) n [] ++ take m xs) in
         rw (one-seen, out-seen, z) (sym (put-none two [] (put one (drop m xs) up) (input .else-none refl) ∙ top-put n₁ one top-one (drop m xs) up))
 
     -- so many entries more in the output, and as many steps
-    module _ (m : ℕ) (length-is : m ≡ runLength wholeWord (c - filled) (bufferOf ws n₁) (seenIf b (bufferOf ws n₂))) {ws′ : List ℕ} (r : Ran ws ws′ n n₁ (touchedIf b n₁ n₂) (turnedBy b m ws n n₁ n₂)) where
-      run-is : m ≡ runLength wholeWord (c - filled) (entries one (buffersOf ws)) (entries two (buffersOf ws))
+    module _ (m : ℕ) (length-is : m ≡ runLength key (c - filled) (bufferOf ws n₁) (seenIf b (bufferOf ws n₂))) {ws′ : List ℕ} (r : Ran ws ws′ n n₁ (touchedIf b n₁ n₂) (turnedBy key b m ws n n₁ n₂)) where
+      run-is : m ≡ runLength key (c - filled) (entries one (buffersOf ws)) (entries two (buffersOf ws))
       run-is = rw (← one-seen, ← two-seen b input-two) length-is
 
       abbrev after : Merged
-      after = merged wholeWord m (entries one (buffersOf ws)) (entries two (buffersOf ws))
+      after = merged key m (entries one (buffersOf ws)) (entries two (buffersOf ws))
 
       state-is : buffersOf ws′ ≡ stored n one two (getD (buffersOf ws) n [] ++ after .out) (after .one) (after .two) (buffersOf ws)
       unfolding advanced
@@ -381,14 +380,14 @@ module _ (n c : ℕ) (one two : Tree) (ws₀ : List ℕ) (among₀ : Among (merg
 
       less : (k : ℕ) → k ≢ n → length (getD (buffersOf ws′) k []) ≤ length (getD (buffersOf ws) k [])
       less k differ =
-          let q = merged-less wholeWord m (entries one (buffersOf ws)) (entries two (buffersOf ws)) in
+          let q = merged-less key m (entries one (buffersOf ws)) (entries two (buffersOf ws)) in
           rw state-is (stored-less n c one two (buffersOf ws) amongR (getD (buffersOf ws) n [] ++ after .out) (after .one) (after .two) (q .0) (q .1) k differ)
 
       pub within-room : m ≤ c - filled
-      within-room = rw run-is (run-within wholeWord (c - filled) (entries one (buffersOf ws)) (entries two (buffersOf ws)))
+      within-room = rw run-is (run-within key (c - filled) (entries one (buffersOf ws)) (entries two (buffersOf ws)))
 
       out-long : length (after .out) ≡ m
-      out-long = length-out wholeWord m (entries one (buffersOf ws)) (entries two (buffersOf ws)) (rw run-is (run-most wholeWord (c - filled) (entries one (buffersOf ws)) (entries two (buffersOf ws))))
+      out-long = length-out key m (entries one (buffersOf ws)) (entries two (buffersOf ws)) (rw run-is (run-most key (c - filled) (entries one (buffersOf ws)) (entries two (buffersOf ws))))
 
       now-long : countOf ws′ n ≡ filled + m
       now-long =
@@ -401,7 +400,7 @@ module _ (n c : ℕ) (one two : Tree) (ws₀ : List ℕ) (among₀ : Among (merg
       marks-in : (t : Tree) → Outside n t → ((k : ℕ) → Stands k t → k < many ws) → MarksRight ws t → MarksRight ws′ t
       marks-in t out below marks = marks-less t ws ws′ (λ k s. r .marks k (below k s)) (λ k s. less k (λ e. out (rw e at s))) marks
 
-      pub run-made : Filling n c one two ws₀ ws′ (filled + m) (steps + m)
+      pub run-made : Filling key n c one two ws₀ ws′ (filled + m) (steps + m)
       run-made = record {
         array = r .array;
         kept = kept-then (f .kept) (r .kept);
@@ -412,7 +411,7 @@ module _ (n c : ℕ) (one two : Tree) (ws₀ : List ℕ) (among₀ : Among (merg
         marks-one = marks-in one (joint among₀ .out-one) (λ k s. belowR k (in-first s)) (f .marks-one);
         marks-two = marks-in two (joint among₀ .out-two) (λ k s. belowR k (in-second s)) (f .marks-two);
         within = omega (arith, within-room, f .within);
-        law = f .law ∙ ap (plus steps) gone-on ∙ regroup (filling wholeWord n c one two (c - (filled + m)) (buffersOf ws′));
+        law = f .law ∙ ap (plus steps) gone-on ∙ regroup (filling key n c one two (c - (filled + m)) (buffersOf ws′));
       }
         where
           not-one : (k : ℕ) → (StandsIn k (merger n c one two) → ⊥) → k ≢ n₁
@@ -422,31 +421,31 @@ module _ (n c : ℕ) (one two : Tree) (ws₀ : List ℕ) (among₀ : Among (merg
           not-touched k out true input e = out (inr (inr (rw e (stands-in (top-stands n₂ two (input .counts refl))))))
           not-touched k out false input e = not-one k out e
 
-          gone-on : filling wholeWord n c one two (c - filled) (buffersOf ws) ≡ plus m (filling wholeWord n c one two (c - (filled + m)) (buffersOf ws′))
+          gone-on : filling key n c one two (c - filled) (buffersOf ws) ≡ plus m (filling key n c one two (c - (filled + m)) (buffersOf ws′))
           gone-on =
               let left : c - filled - m ≡ c - (filled + m) = omega arith in
-              let here : buffersOf ws′ ≡ advanced wholeWord n c one two m (buffersOf ws) = r .state ∙ turned-is b input-two m in
-              rw (here, ← left) (ready-run wholeWord n c one two roomy-one roomy-two (c - filled) (buffersOf ws) amongR ready-one ready-two m run-is within-room)
+              let here : buffersOf ws′ ≡ advanced key n c one two m (buffersOf ws) = r .state ∙ turned-is b input-two m in
+              rw (here, ← left) (ready-run key n c one two roomy-one roomy-two (c - filled) (buffersOf ws) amongR ready-one ready-two m run-is within-room)
 
           regroup : (z : Filled) → plus steps (plus m z) ≡ plus (steps + m) z
           regroup z = let e : steps + (m + z .steps) ≡ steps + m + z .steps = omega arith in λ i. record { buffers = z .buffers; steps = e i }
 
       -- no step was made: filling stops, with nothing left below
       module _ (none : m ≡ 0) (more : filled < c) where
-        both-empty : (room : ℕ) → 0 < room → m ≡ runLength wholeWord room (entries one (buffersOf ws)) (entries two (buffersOf ws)) → (entries one (buffersOf ws) ≡ []) × (entries two (buffersOf ws) ≡ [])
+        both-empty : (room : ℕ) → 0 < room → m ≡ runLength key room (entries one (buffersOf ws)) (entries two (buffersOf ws)) → (entries one (buffersOf ws) ≡ []) × (entries two (buffersOf ws) ≡ [])
         both-empty zero some e = absurd (omega arith)
-        both-empty (suc room) some e = run-none wholeWord room (entries one (buffersOf ws)) (entries two (buffersOf ws)) (sym e ∙ none)
+        both-empty (suc room) some e = run-none key room (entries one (buffersOf ws)) (entries two (buffersOf ws)) (sym e ∙ none)
 
         empties : (entries one (buffersOf ws) ≡ []) × (entries two (buffersOf ws) ≡ [])
         empties = both-empty (c - filled) (omega arith) run-is
 
         pub unmoved : buffersOf ws′ ≡ buffersOf ws
-        unmoved = r .state ∙ turned-is b input-two m ∙ rw none (none-advanced wholeWord n c one two (buffersOf ws) amongR)
+        unmoved = r .state ∙ turned-is b input-two m ∙ rw none (none-advanced key n c one two (buffersOf ws) amongR)
 
-        pub stopped : fill wholeWord (merger n c one two) (buffersOf ws₀) ≡ plus (steps + m) (untouched (buffersOf ws′))
+        pub stopped : fill key (merger n c one two) (buffersOf ws₀) ≡ plus (steps + m) (untouched (buffersOf ws′))
         stopped =
             let e : steps + m ≡ steps = omega arith in
-            rw (e, unmoved) (f .law ∙ ap (plus steps) (ready-stop wholeWord n c one two roomy-one roomy-two (c - filled) (buffersOf ws) (empties .0) (empties .1) ready-one ready-two))
+            rw (e, unmoved) (f .law ∙ ap (plus steps) (ready-stop key n c one two roomy-one roomy-two (c - filled) (buffersOf ws) (empties .0) (empties .1) ready-one ready-two))
 
         pub none-in-one : heldIn one (buffersOf ws′) ≡ 0
         none-in-one = rw unmoved (ready-one (rw (empties .0) refl))
@@ -456,27 +455,27 @@ module _ (n c : ℕ) (one two : Tree) (ws₀ : List ℕ) (among₀ : Among (merg
 
   -- ---- filling has ended
 
-  module _ {ws : List ℕ} {filled steps : ℕ} (f : Filling n c one two ws₀ ws filled steps) where
+  module _ {key : ℕ → ℕ} {ws : List ℕ} {filled steps : ℕ} (f : Filling key n c one two ws₀ ws filled steps) where
     -- with an entry in the output it needs no mark
-    pub done : fill wholeWord (merger n c one two) (buffersOf ws₀) ≡ plus steps (untouched (buffersOf ws)) → Did ws₀ ws (merger n c one two) (fill wholeWord (merger n c one two) (buffersOf ws₀)) steps
+    pub done : fill key (merger n c one two) (buffersOf ws₀) ≡ plus steps (untouched (buffersOf ws)) → Did ws₀ ws (merger n c one two) (fill key (merger n c one two) (buffersOf ws₀)) steps
     unfolding untouched
     done e = record {
       array = f .array;
       state = sym (ap (λ z. z .buffers) e);
-      count = let q : fill wholeWord (merger n c one two) (buffersOf ws₀) .steps ≡ steps + 0 = ap (λ z. z .steps) e in omega arith;
+      count = let q : fill key (merger n c one two) (buffersOf ws₀) .steps ≡ steps + 0 = ap (λ z. z .steps) e in omega arith;
       marks = (λ marked. absurd (omega (arith, f .mark)), f .marks-one, f .marks-two);
       kept = f .kept;
       others = f .others;
     }
 
     -- the output is full
-    pub done-full : c ≤ filled → Did ws₀ ws (merger n c one two) (fill wholeWord (merger n c one two) (buffersOf ws₀)) steps
+    pub done-full : c ≤ filled → Did ws₀ ws (merger n c one two) (fill key (merger n c one two) (buffersOf ws₀)) steps
     unfolding fillRoom
     done-full h = let e : c - filled ≡ 0 = omega arith in done (f .law ∙ rw e)
 
     -- nothing was found: the output gets the mark
-    pub done-none : (ws′ : List ℕ) → filled ≡ 0 → fill wholeWord (merger n c one two) (buffersOf ws₀) ≡ plus steps (untouched (buffersOf ws)) → heldIn one (buffersOf ws) ≡ 0 → heldIn two (buffersOf ws) ≡ 0
-        → Now ws ws′ n [] → Did ws₀ ws′ (merger n c one two) (fill wholeWord (merger n c one two) (buffersOf ws₀)) steps
+    pub done-none : (ws′ : List ℕ) → filled ≡ 0 → fill key (merger n c one two) (buffersOf ws₀) ≡ plus steps (untouched (buffersOf ws)) → heldIn one (buffersOf ws) ≡ 0 → heldIn two (buffersOf ws) ≡ 0
+        → Now ws ws′ n [] → Did ws₀ ws′ (merger n c one two) (fill key (merger n c one two) (buffersOf ws₀)) steps
     unfolding untouched heldIn
     done-none ws′ none e held-one held-two z =
         let lt : n < many ws = rw (kept-links (f .kept)) (below₀ n output) in
@@ -489,7 +488,7 @@ module _ (n c : ℕ) (one two : Tree) (ws₀ : List ℕ) (among₀ : Among (merg
         record {
           array = z .array;
           state = same ∙ sym (ap (λ z. z .buffers) e);
-          count = let q : fill wholeWord (merger n c one two) (buffersOf ws₀) .steps ≡ steps + 0 = ap (λ z. z .steps) e in omega arith;
+          count = let q : fill key (merger n c one two) (buffersOf ws₀) .steps ≡ steps + 0 = ap (λ z. z .steps) e in omega arith;
           marks = (
             λ marked. rw same sums,
             marks-same one ws ws′ (λ m s. words m (λ q. joint among₀ .out-one (rw q at s)) (below₀ m (in-first s))) (λ m s. ap (λ bs. getD bs m []) same) (f .marks-one),

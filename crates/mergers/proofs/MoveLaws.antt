@@ -1,25 +1,24 @@
 -- Entries laid behind the output's last one and counted in, and dropped from the inputs: what merge steps leave.
-use Prim.Native.Nat.{ℕ, zero, suc, _+_, _-_, _≤_, _<_, min}
-use mathlib.Core.Path.{_≡_, refl, sym, ap, _∙_, subst}
+use Prim.Native.Nat.{ℕ, _+_, _-_, _≤_, _<_}
+use mathlib.Core.Path.{_≡_, sym, ap, _∙_}
 use mathlib.Core.Logic.{_≢_}
-use mathlib.Core.List.{List, [], _∷_, _++_}
+use mathlib.Core.List.{List, [], _++_}
 use native.Mathlib.Omega.{arith}
 use native.Mathlib.Decide.{ℕ-discrete}
-use lib.ListN.{length, getD, take, drop, set, length-take}
+use lib.ListN.{length, getD, take, drop, set}
 use lib.Seq.{take-take, length-take-le, getD-set-other, set-getD, set-comm}
-use Rattle.rules.specs.Entries.{wholeWord}
 use Rattle.rules.specs.Merge.{Merged, merged}
 use Rattle.rules.specs.Tree.{Buffers}
-use Rattle.buffers.specs.Slots.{base, capacityOf}
-use Rattle.buffers.specs.Format.{linksIn, wordOf, countOf, startOf, markOf, countIn, startIn, markIn, many, headOf, bufferOf, buffersOf}
-use Rattle.buffers.specs.Post.{Inside, Has, Only, Now, Kept, Growing, Dropping, Word}
+use Rattle.buffers.specs.Slots.{capacityOf}
+use Rattle.buffers.specs.Format.{wordOf, countOf, startOf, markOf, startIn, markIn, many, headOf, bufferOf, buffersOf}
+use Rattle.buffers.specs.Post.{Has, Now, Growing, Dropping, Word}
 use Rattle.buffers.proofs.SlotLaws.{not-both}
-use Rattle.buffers.proofs.ArrayLaws.{has, buffer-length, buffers-at, buffers-length, only-links, only-word, only-kept, only-buffer, kept-links, kept-then}
+use Rattle.buffers.proofs.ArrayLaws.{has, buffer-length, buffers-at, only-word, only-kept, kept-links, kept-then}
 use Rattle.runs.specs.Promises.{laidAt, stretch, Apart, Moves, Stretches, Merges}
 use Rattle.runs.proofs.MergeLaws.{reached, merged-one, merged-two}
 use Rattle.runs.proofs.PromiseLaws.{merges-long}
-use Rattle.mergers.specs.Post.{At, Moving, Merging, Ran, movedBy, mergedBy}
-use Rattle.mergers.proofs.AppendLaws.{end, laid, laid-only, laid-word, laid-has, laid-state, laid-counted}
+use Rattle.mergers.specs.Post.{Moving, Merging, Ran, movedBy, mergedBy}
+use Rattle.mergers.proofs.AppendLaws.{laid, laid-only, laid-word, laid-has, laid-state, laid-counted}
 
 -- ---- one buffer more has changed
 
@@ -157,77 +156,77 @@ module _ (ws : List ℕ) (out to room one from two other : ℕ) (h : Merging ws 
     pub q-end-is : q-end ≡ q + countOf ws two
     pub r-is : r ≡ headOf ws out + countOf ws out
 
-  module _ {p p-end q q-end r : ℕ} (f : Found p p-end q q-end r) where
-    pub stretches : Stretches ws r p p-end q q-end room
-    stretches = record {
-      free = omega (arith, h .first .free, h .first .output .of .slots, f .r-is);
-      one-starts = omega (arith, f .p-end-is);
-      one-inside = omega (arith, f .p-is, f .p-end-is, h .first .input .of .fits, h .first .input .of .slots);
-      two-starts = omega (arith, f .q-end-is);
-      two-inside = omega (arith, f .q-is, f .q-end-is, h .second .input .of .fits, h .second .input .of .slots);
-      one-apart = rw (f .p-end-is) (input-apart ws out to room one from (h .first) p r (f .p-is) (f .r-is) (countOf ws one) room (omega arith) (omega arith));
-      two-apart = rw (f .q-end-is) (input-apart ws out to room two other (h .second) q r (f .q-is) (f .r-is) (countOf ws two) room (omega arith) (omega arith));
-    }
+module _ {ws : List ℕ} {out to room one from two other : ℕ} {h : Merging ws out to room one from two other} {p p-end q q-end r : ℕ} (f : Found ws out to room one from two other h p p-end q q-end r) where
+  pub stretches : Stretches ws r p p-end q q-end room
+  stretches = record {
+    free = omega (arith, h .first .free, h .first .output .of .slots, f .r-is);
+    one-starts = omega (arith, f .p-end-is);
+    one-inside = omega (arith, f .p-is, f .p-end-is, h .first .input .of .fits, h .first .input .of .slots);
+    two-starts = omega (arith, f .q-end-is);
+    two-inside = omega (arith, f .q-is, f .q-end-is, h .second .input .of .fits, h .second .input .of .slots);
+    one-apart = rw (f .p-end-is) (input-apart ws out to room one from (h .first) p r (f .p-is) (f .r-is) (countOf ws one) room (omega arith) (omega arith));
+    two-apart = rw (f .q-end-is) (input-apart ws out to room two other (h .second) q r (f .q-is) (f .r-is) (countOf ws two) room (omega arith) (omega arith));
+  }
 
-    entries-found : (k x x-end : ℕ) → x ≡ headOf ws k → x-end ≡ x + countOf ws k → stretch x x-end ws ≡ bufferOf ws k
-    unfolding bufferOf
-    entries-found k x x-end a b = let long : x-end - x ≡ countOf ws k = omega arith in rw (long, a)
+  entries-found : (k x x-end : ℕ) → x ≡ headOf ws k → x-end ≡ x + countOf ws k → stretch x x-end ws ≡ bufferOf ws k
+  unfolding bufferOf
+  entries-found k x x-end a b = let long : x-end - x ≡ countOf ws k = omega arith in rw (long, a)
 
-    module _ (ws₁ : List ℕ) (m g : ℕ) (found : Merges wholeWord (stretch p p-end ws) (stretch q q-end ws) ws ws₁ r room m g) where
-      pub run : Merges wholeWord (bufferOf ws one) (bufferOf ws two) ws ws₁ r room m g
-      run = rw (entries-found one p p-end (f .p-is) (f .p-end-is), entries-found two q q-end (f .q-is) (f .q-end-is)) at found
+  module _ {key : ℕ → ℕ} (ws₁ : List ℕ) (m g : ℕ) (found : Merges key (stretch p p-end ws) (stretch q q-end ws) ws ws₁ r room m g) where
+    pub run : Merges key (bufferOf ws one) (bufferOf ws two) ws ws₁ r room m g
+    run = rw (entries-found one p p-end (f .p-is) (f .p-end-is), entries-found two q q-end (f .q-is) (f .q-end-is)) at found
 
-      abbrev after : Merged
-      after = merged wholeWord m (bufferOf ws one) (bufferOf ws two)
+    abbrev after : Merged
+    after = merged key m (bufferOf ws one) (bufferOf ws two)
 
-      laid-run : ws₁ ≡ laidAt ws (headOf ws out + countOf ws out) (after .out)
-      laid-run = rw (← f .r-is) (run .laid)
+    laid-run : ws₁ ≡ laidAt ws (headOf ws out + countOf ws out) (after .out)
+    laid-run = rw (← f .r-is) (run .laid)
 
-      run-room : startOf ws out + countOf ws out + m ≤ capacityOf out
-      run-room = omega (arith, run .within, h .first .free)
+    run-room : startOf ws out + countOf ws out + m ≤ capacityOf out
+    run-room = omega (arith, run .within, h .first .free)
 
-      pub both-growing : Growing ws₁ out m
-      both-growing = growing ws out (h .first .output .of) (after .out) m (merges-long wholeWord run) run-room ws₁ laid-run
+    pub both-growing : Growing ws₁ out m
+    both-growing = growing ws out (h .first .output .of) (after .out) m (merges-long key run) run-room ws₁ laid-run
 
-      module _ (ws₂ : List ℕ) (z₂ : Now ws₁ ws₂ out (take (countOf ws₁ out + m) (drop (headOf ws₁ out) ws₁))) (w₂ : Word ws₂ out (markOf ws₁ out) (startOf ws₁ out)) where
-        abbrev bs₂ : Buffers
-        bs₂ = set (buffersOf ws) out (bufferOf ws out ++ after .out)
+    module _ (ws₂ : List ℕ) (z₂ : Now ws₁ ws₂ out (take (countOf ws₁ out + m) (drop (headOf ws₁ out) ws₁))) (w₂ : Word ws₂ out (markOf ws₁ out) (startOf ws₁ out)) where
+      abbrev bs₂ : Buffers
+      bs₂ = set (buffersOf ws) out (bufferOf ws out ++ after .out)
 
-        ran₂ : Ran ws ws₂ out out out bs₂
-        ran₂ = grown-ran ws out (h .first .output .of) (after .out) m (merges-long wholeWord run) run-room ws₁ laid-run ws₂ z₂ w₂
+      ran₂ : Ran ws ws₂ out out out bs₂
+      ran₂ = grown-ran ws out (h .first .output .of) (after .out) m (merges-long key run) run-room ws₁ laid-run ws₂ z₂ w₂
 
-        not-one : one ≢ out
-        not-one e = h .first .differ (sym e)
+      not-one : one ≢ out
+      not-one e = h .first .differ (sym e)
 
-        not-two : two ≢ out
-        not-two e = h .second .differ (sym e)
+      not-two : two ≢ out
+      not-two e = h .second .differ (sym e)
 
-        pub one-dropping : Dropping ws₂ one g
-        one-dropping = dropping ws ws₂ out out out bs₂ ran₂ one (h .first .input .of) not-one not-one not-one g (omega (arith, run .of-first, buffer-length ws one (h .first .input .of)))
+      pub one-dropping : Dropping ws₂ one g
+      one-dropping = dropping ws ws₂ out out out bs₂ ran₂ one (h .first .input .of) not-one not-one not-one g (omega (arith, run .of-first, buffer-length ws one (h .first .input .of)))
 
-        module _ (ws₃ : List ℕ) (z₃ : Now ws₂ ws₃ one (drop g (bufferOf ws₂ one))) (w₃ : Word ws₃ one (markOf ws₂ one) (startOf ws₂ one + g)) where
-          abbrev bs₃ : Buffers
-          bs₃ = set bs₂ one (after .one)
+      module _ (ws₃ : List ℕ) (z₃ : Now ws₂ ws₃ one (drop g (bufferOf ws₂ one))) (w₃ : Word ws₃ one (markOf ws₂ one) (startOf ws₂ one + g)) where
+        abbrev bs₃ : Buffers
+        bs₃ = set bs₂ one (after .one)
 
-          ran₃ : Ran ws ws₃ out one one bs₃
-          ran₃ =
-              let same : getD bs₂ one [] ≡ bufferOf ws one = getD-set-other (buffersOf ws) out one (bufferOf ws out ++ after .out) [] not-one ∙ buffers-at ws one (h .first .input .of .below) in
-              let left : drop g (getD bs₂ one []) ≡ after .one = rw same (run .one) in
-              rw left at (dropped-ran ws ws₂ out out out bs₂ ran₂ one (h .first .input .of) not-one not-one not-one ws₃ g one one (λ n a b c. (a, a, b)) (h .first .output .of .below) z₃ w₃)
+        ran₃ : Ran ws ws₃ out one one bs₃
+        ran₃ =
+            let same : getD bs₂ one [] ≡ bufferOf ws one = getD-set-other (buffersOf ws) out one (bufferOf ws out ++ after .out) [] not-one ∙ buffers-at ws one (h .first .input .of .below) in
+            let left : drop g (getD bs₂ one []) ≡ after .one = rw same (run .one) in
+            rw left at (dropped-ran ws ws₂ out out out bs₂ ran₂ one (h .first .input .of) not-one not-one not-one ws₃ g one one (λ n a b c. (a, a, b)) (h .first .output .of .below) z₃ w₃)
 
-          two-not-one : two ≢ one
-          two-not-one e = h .differ (sym e)
+        two-not-one : two ≢ one
+        two-not-one e = h .differ (sym e)
 
-          pub two-dropping : Dropping ws₃ two (m - g)
-          two-dropping = dropping ws ws₃ out one one bs₃ ran₃ two (h .second .input .of) not-two two-not-one two-not-one (m - g) (omega (arith, run .of-second, buffer-length ws two (h .second .input .of)))
+        pub two-dropping : Dropping ws₃ two (m - g)
+        two-dropping = dropping ws ws₃ out one one bs₃ ran₃ two (h .second .input .of) not-two two-not-one two-not-one (m - g) (omega (arith, run .of-second, buffer-length ws two (h .second .input .of)))
 
-          pub both-ran : (ws₄ : List ℕ) → Now ws₃ ws₄ two (drop (m - g) (bufferOf ws₃ two)) → Word ws₄ two (markOf ws₃ two) (startOf ws₃ two + (m - g))
-              → Ran ws ws₄ out one two (mergedBy m ws out one two)
-          both-ran ws₄ z₄ w₄ =
-              let same : getD bs₃ two [] ≡ bufferOf ws two =
-              getD-set-other bs₂ one two (after .one) [] two-not-one ∙ getD-set-other (buffersOf ws) out two (bufferOf ws out ++ after .out) [] not-two ∙ buffers-at ws two (h .second .input .of .below) in
-              let left : drop (m - g) (getD bs₃ two []) ≡ after .two = rw same (run .two) in
-              rw left at (dropped-ran ws ws₃ out one one bs₃ ran₃ two (h .second .input .of) not-two two-not-one two-not-one ws₄ (m - g) one two (λ n a b c. (b, b, c)) (h .first .output .of .below) z₄ w₄)
+        pub both-ran : (ws₄ : List ℕ) → Now ws₃ ws₄ two (drop (m - g) (bufferOf ws₃ two)) → Word ws₄ two (markOf ws₃ two) (startOf ws₃ two + (m - g))
+            → Ran ws ws₄ out one two (mergedBy key m ws out one two)
+        both-ran ws₄ z₄ w₄ =
+            let same : getD bs₃ two [] ≡ bufferOf ws two =
+            getD-set-other bs₂ one two (after .one) [] two-not-one ∙ getD-set-other (buffersOf ws) out two (bufferOf ws out ++ after .out) [] not-two ∙ buffers-at ws two (h .second .input .of .below) in
+            let left : drop (m - g) (getD bs₃ two []) ≡ after .two = rw same (run .two) in
+            rw left at (dropped-ran ws ws₃ out one one bs₃ ran₃ two (h .second .input .of) not-two two-not-one two-not-one ws₄ (m - g) one two (λ n a b c. (b, b, c)) (h .first .output .of .below) z₄ w₄)
 
 -- ---- one of two inputs is empty
 
@@ -238,9 +237,9 @@ module _ (ws : List ℕ) (out to room one from two other : ℕ) (h : Merging ws 
       rw (← here) (set-getD (set (buffersOf ws) out es) k [])
 
   -- m entries of the second moved: as many merge steps, the first being empty
-  pub second-alone : (ws′ : List ℕ) (m : ℕ) → bufferOf ws one ≡ [] → Ran ws ws′ out two two (movedBy m ws out two) → Ran ws ws′ out one two (mergedBy m ws out one two)
-  second-alone ws′ m none r =
-      let z : merged wholeWord m (bufferOf ws one) (bufferOf ws two) ≡ reached (take m (bufferOf ws two)) [] (drop m (bufferOf ws two)) = rw none (merged-two wholeWord m (bufferOf ws two)) in
+  pub second-alone : (key : ℕ → ℕ) (ws′ : List ℕ) (m : ℕ) → bufferOf ws one ≡ [] → Ran ws ws′ out two two (movedBy m ws out two) → Ran ws ws′ out one two (mergedBy key m ws out one two)
+  second-alone key ws′ m none r =
+      let z : merged key m (bufferOf ws one) (bufferOf ws two) ≡ reached (take m (bufferOf ws two)) [] (drop m (bufferOf ws two)) = rw none (merged-two key m (bufferOf ws two)) in
       record {
         array = r .array;
         state = r .state ∙ rw z (ap (λ b. set b two (drop m (bufferOf ws two))) (sym (empty-kept one (h .first .input .of) (λ e. h .first .differ (sym e)) none (bufferOf ws out ++ take m (bufferOf ws two)))));
@@ -250,10 +249,10 @@ module _ (ws : List ℕ) (out to room one from two other : ℕ) (h : Merging ws 
         words = λ n lt a b c. r .words n lt a c c;
       }
 
-  pub first-alone : (ws′ : List ℕ) (m : ℕ) → bufferOf ws two ≡ [] → Ran ws ws′ out one one (movedBy m ws out one) → Ran ws ws′ out one two (mergedBy m ws out one two)
-  first-alone ws′ m none r =
+  pub first-alone : (key : ℕ → ℕ) (ws′ : List ℕ) (m : ℕ) → bufferOf ws two ≡ [] → Ran ws ws′ out one one (movedBy m ws out one) → Ran ws ws′ out one two (mergedBy key m ws out one two)
+  first-alone key ws′ m none r =
       let es = bufferOf ws out ++ take m (bufferOf ws one) in
-      let z : merged wholeWord m (bufferOf ws one) (bufferOf ws two) ≡ reached (take m (bufferOf ws one)) (drop m (bufferOf ws one)) [] = rw none (merged-one wholeWord m (bufferOf ws one)) in
+      let z : merged key m (bufferOf ws one) (bufferOf ws two) ≡ reached (take m (bufferOf ws one)) (drop m (bufferOf ws one)) [] = rw none (merged-one key m (bufferOf ws one)) in
       record {
         array = r .array;
         state = r .state ∙ rw z (ap (λ b. set b one (drop m (bufferOf ws one))) (sym (empty-kept two (h .second .input .of) (λ e. h .second .differ (sym e)) none es))

@@ -1,25 +1,24 @@
 -- What feeds link i's buffer j, and what stands at the top of the tree below it.
-use Prim.Native.Nat.{ℕ, zero, suc, _+_, _-_, _*_, _/_, _≤_, _<_}
-use mathlib.Core.Path.{_≡_, refl, sym, ap, _∙_}
-use mathlib.Core.Logic.{_⊎_, inl, inr}
-use mathlib.Core.Bool.{Bool, true, false}
-use mathlib.Core.List.{List, [], _∷_, _++_}
+use Prim.Native.Nat.{ℕ, zero, suc, _+_, _-_, _*_, _^_, _/_, _≤_, _<_}
+use mathlib.Core.Path.{_≡_, refl, sym, _∙_}
+use mathlib.Core.Bool.{Bool}
+use mathlib.Core.List.{[], _∷_}
 use native.Mathlib.Omega.{arith}
 use native.Mathlib.Nat.{add-zero}
 use native.Mathlib.Decide.{ℕ-discrete}
 use lib.Dec.{T, leb, eqb, leb→le, eqb→eq}
-use lib.ListN.{length, getD, set, drop, drop-of-length-le, List·getD-append}
+use lib.ListN.{length, getD, drop, drop-of-length-le, List·getD-append}
 use lib.Seq.{drop-cons}
 use Rattle.rules.specs.Tests.{_and_, every}
-use Rattle.rules.specs.Links.{s, k, levels, first, depthOf, capacity, start, offset, bufferCount, words, LinkNumber, InLink}
-use Rattle.rules.specs.Tree.{Buffers, Tree, exhausted, buffer, merger, entries, put, perfect, kMerger, linksFrom}
+use Rattle.rules.specs.Links.{s, k, levels, first, depthOf, capacity, start, offset, bufferCount, mostLinks, allBuffers, bookWords, LinkNumber, InLink}
+use Rattle.rules.specs.Tree.{Tree, exhausted, buffer, merger, perfect, kMerger, linksFrom}
 use Rattle.rules.proofs.Numbers.{Among, among-first, among-second}
 use Rattle.rules.proofs.Full.{Roomy, over}
-use Rattle.rules.proofs.Sizes.{first-further}
+use Rattle.rules.proofs.Sizes.{first-mono}
 use Rattle.rules.proofs.Numbering.{links-among, links-roomy}
-use Rattle.rules.proofs.Table.{and-one, and-two, every-at, each-link, k-least, first-most, first-at, words-at, in-link}
+use Rattle.rules.proofs.Table.{and-one, and-two, every-at, each-link, k-least, first-most, in-book, in-link}
 use Rattle.buffers.specs.Slots.{base}
-use Rattle.buffers.proofs.SlotLaws.{base-is, in-words}
+use Rattle.buffers.proofs.SlotLaws.{base-is, base-small}
 use Rattle.mergers.specs.Post.{Spot, Fed}
 use Rattle.mergers.specs.Subtree.{subtree, firstInput, secondInput, secondLink}
 
@@ -120,25 +119,15 @@ second-link-next i j e = rw e (omega arith)
 
 -- ---- where a buffer is
 
-pub first-below : (i : ℕ) → 1 ≤ i → i ≤ 5 → first i ≤ 61
-unfolding every first
-first-below i low high = leb→le (first i) 61 (every-at (λ i. leb (first i) 61) 1 5 tt i low (omega arith))
+pub first-below : (i : ℕ) → 1 ≤ i → i ≤ suc mostLinks → first i ≤ bookWords
+unfolding allBuffers bufferCount
+first-below i low high = omega (arith, first-mono i (suc mostLinks) low high, in-book)
 
-pub base-here : {i j : ℕ} → InLink i j → {i′ r : ℕ} → i′ ≡ i → r ≡ start i′ + offset i′ j → 256 + r ≡ base (first i + j)
+pub base-here : {i j : ℕ} → InLink i j → {i′ r : ℕ} → i′ ≡ i → r ≡ start i′ + offset i′ j → bookWords + r ≡ base (first i + j)
 base-here {i} {j} h {i′} {r} e f = let g : r ≡ start i + offset i j = rw e at f in rw g (sym (base-is h))
 
-pub base-below : {i j : ℕ} → InLink i j → base (first i + j) ≤ 28436
-unfolding bufferCount
-base-below {i} {j} h = omega (arith, in-words four (first i + j) (omega (arith, h .below, first-most (h .link), sixty-one)), four-words)
-  where
-    four : LinkNumber 4
-    four = record { low = omega arith; high = omega arith }
-
-    sixty-one : bufferCount 4 ≡ 61
-    sixty-one = sym (first-at 5 tt refl tt)
-
-    four-words : words 4 ≡ 28436
-    four-words = sym (words-at 4 tt refl tt)
+pub base-below : {i j : ℕ} → InLink i j → base (first i + j) ≤ 2 ^ 32
+base-below {i} {j} h = base-small (first i + j) (omega (arith, h .below, first-most (h .link)))
 
 pub spot : {i j : ℕ} → InLink i j → Spot i j
 spot h = record { low = h .link .low; high = omega (arith, h .link .high); few = h .few; inside = λ most. h }
@@ -147,7 +136,7 @@ spot h = record { low = h .link .low; high = omega (arith, h .link .high); few =
 pub first-spot : {i j : ℕ} → Fed i j → Spot i (firstInput j)
 first-spot {i} {j} h = go j (h .above) (h .inside .few)
   where
-    go : (j : ℕ) → j < k i → j < 32 → Spot i (firstInput j)
+    go : (j : ℕ) → j < k i → j < bookWords → Spot i (firstInput j)
     go zero above few = spot (in-link (h .inside .link) (omega (arith, k-least (h .inside .link))))
     go (suc j) above few = spot (in-link (h .inside .link) (omega arith))
 
@@ -167,9 +156,6 @@ second-spot {i} {j} h = go j (h .above)
     go : (j : ℕ) → j < k i → Spot (secondLink i j) (secondInput j)
     go zero above = next
     go (suc j) above = spot (in-link (h .inside .link) (omega arith))
-
-first-up : (i j : ℕ) → 0 < i → i ≤ j → first i ≤ first j
-first-up i j some h = let e : i + (j - i) ≡ j = omega arith in rw e at (first-further i (j - i) some)
 
 roomy-inputs : {n c : ℕ} {one two : Tree} → Roomy (merger n c one two) → Roomy one × Roomy two
 roomy-inputs (over some p q) = (p, q)
@@ -207,7 +193,7 @@ part-among last links {i} {j} inside low high =
     let n = suc last - i in
     let e : i + n ≡ suc last = omega arith in
     let f : last + (links - last) ≡ links = omega arith in
-    let most : first (i + n) ≤ first (suc links) = rw e (first-up (suc last) (suc links) (omega arith) (omega arith)) in
+    let most : first (i + n) ≤ first (suc links) = rw e (first-mono (suc last) (suc links) (omega arith) (omega arith)) in
     everywhere (λ t. Among t (first (suc links))) (λ n c one two a. (among-first a, among-second a)) last (inside .link) low (links-among i n (first (suc links)) (inside .link .low) most) inside
 
 pub part-roomy : (last : ℕ) {i j : ℕ} → InLink i j → i ≤ last → Roomy (subtree last i j)

@@ -1,44 +1,41 @@
 -- The walk down the tree: what is known in `fill` from the places of a merger's output and inputs.
-use Prim.Native.Nat.{ℕ, zero, suc, _+_, _-_, _*_, _≤_, _<_}
+use Prim.Native.Nat.{ℕ, zero, suc, _+_, _-_, _≤_, _<_}
 use mathlib.Core.Path.{_≡_, refl, sym, ap, _∙_, subst}
-use mathlib.Core.Logic.{_≢_, _⊎_, inl, inr, ⊎-elim}
+use mathlib.Core.Logic.{_≢_}
 use mathlib.Core.Bool.{Bool, true, false}
-use mathlib.Core.List.{List, [], _∷_}
+use mathlib.Core.List.{List, []}
 use native.Mathlib.Omega.{arith}
 use native.Mathlib.Decide.{decLt, ℕ-discrete}
-use borrow.Author.Tests.{le-leb, lt-leb, leb-true, leb-false, ne-eqb}
+use borrow.Author.Tests.{le-leb, leb-true, leb-false, ne-eqb}
 use lib.Dec.{leb}
-use lib.ListN.{length, getD, take, drop}
-use Rattle.rules.specs.Entries.{wholeWord}
+use lib.ListN.{take, drop}
 use Rattle.rules.specs.Tests.{_and_}
-use Rattle.rules.specs.Links.{k, first, capacity, bufferCount, LinkNumber, InLink}
-use Rattle.rules.specs.Tree.{Buffers, Tree, exhausted, buffer, merger}
+use Rattle.rules.specs.Links.{k, first, capacity, bufferCount, mostLinks, LinkNumber, InLink}
+use Rattle.rules.specs.Tree.{Tree, exhausted, merger}
 use Rattle.rules.specs.Fill.{Filled, untouched, fill}
 use Rattle.rules.proofs.Heights.{height-falls}
-use Rattle.rules.proofs.Numbers.{Stands, itself, output, in-first, in-second, Among, joint}
+use Rattle.rules.proofs.Numbers.{Stands, output, in-first, in-second, Among, joint}
 use Rattle.rules.proofs.Full.{Roomy, over}
-use Rattle.rules.proofs.Table.{k-least, first-most}
-use Rattle.rules.proofs.Sizes.{first-next}
 use Rattle.buffers.specs.Slots.{base, capacityOf}
-use Rattle.buffers.specs.Format.{linksIn, wordOf, countOf, startOf, markOf, many, bufferOf, buffersOf}
-use Rattle.buffers.specs.Post.{Inside, Has, Now, Kept, Word, Laying, Emptied}
+use Rattle.buffers.specs.Format.{linksIn, countOf, startOf, many, bufferOf, buffersOf}
+use Rattle.buffers.specs.Post.{Has, Now, Word, Laying, Emptied}
 use Rattle.buffers.proofs.SlotLaws.{capacity-is}
-use Rattle.buffers.proofs.ArrayLaws.{has, buffers-length, kept-links, kept-then, kept-none}
+use Rattle.buffers.proofs.ArrayLaws.{has, kept-links, kept-then, kept-none}
 use Rattle.mergers.specs.Moves.{runLength}
 use Rattle.mergers.specs.Subtree.{subtree, heightBelow, firstInput, secondInput, secondLink}
-use Rattle.mergers.specs.Post.{wanted, wantedIn, Placed, Fed, At, Moving, Merging, Turning, Ran, seenIf, touchedIf, turnedBy}
-use Rattle.mergers.specs.Fills.{MarksRight, StandsIn, CanFill, Did}
+use Rattle.mergers.specs.Post.{wanted, wantedIn, Placed, Fed, Moving, Turning, Ran, seenIf, touchedIf, turnedBy}
+use Rattle.mergers.specs.Fills.{MarksRight, CanFill, Did}
 use Rattle.mergers.proofs.SubtreeLaws.{fed-by-none, fed-by-two, past-last, part-among, part-roomy, first-spot, second-spot}
 use Rattle.mergers.proofs.TurnLaws.{refilled, Ready}
 use Rattle.mergers.proofs.RunLaws.{plus, filling}
 use Rattle.mergers.proofs.BoundLaws.{steps-few}
-use Rattle.mergers.proofs.FillLaws.{IsTop, top-stands, Input, Filling, stands-in, in-stands, did-nothing, left-alone, filled-now, begin, begin-state, beside, refilled-both, ready-one, ready-two, run-made, within-room, unmoved, stopped, none-in-one, none-in-two, done, done-full, done-none}
+use Rattle.mergers.proofs.FillLaws.{IsTop, top-stands, Input, Filling, did-nothing, left-alone, filled-now, begin, begin-state, beside, refilled-both, ready-one, ready-two, run-made, within-room, stopped, none-in-one, none-in-two, done, done-full, done-none}
 
 -- S(i,j): no merger feeds it, and nothing is done
-pub leaf-did : (ws : List ℕ) (last i j : ℕ) → CanFill ws last i j → k i ≤ j → Did ws ws (subtree last i j) (fill wholeWord (subtree last i j) (buffersOf ws)) 0
+pub leaf-did : (key : ℕ → ℕ) (ws : List ℕ) (last i j : ℕ) → CanFill ws last i j → k i ≤ j → Did ws ws (subtree last i j) (fill key (subtree last i j) (buffersOf ws)) 0
 unfolding fill
-leaf-did ws last i j h low =
-    did-nothing ws (subtree last i j) (h .array) (h .marks) (fill wholeWord (subtree last i j) (buffersOf ws)) (rw (fed-by-none last (h .place) low))
+leaf-did key ws last i j h low =
+    did-nothing ws (subtree last i j) (h .array) (h .marks) (fill key (subtree last i j) (buffersOf ws)) (rw (fed-by-none last (h .place) low))
 
 -- the top of the tree below a buffer is that buffer
 pub part-top : (last : ℕ) {i j : ℕ} → InLink i j → i ≤ last → IsTop (first i + j) (subtree last i j)
@@ -82,7 +79,7 @@ pub record Began (ws₀ ws₁ : List ℕ) (last i j n at room n₁ at₁ p n₂ 
   pub settled : Now ws₀ ws₁ n (take 0 (drop (base n) ws₀))
   pub word : Word ws₁ n 0 0
 
-module _ {ws₀ ws₁ : List ℕ} {last i j n at room n₁ at₁ p n₂ at₂ q s : ℕ} (g : Began ws₀ ws₁ last i j n at room n₁ at₁ p n₂ at₂ q s) where
+module _ (key : ℕ → ℕ) {ws₀ ws₁ : List ℕ} {last i j n at room n₁ at₁ p n₂ at₂ q s : ℕ} (g : Began ws₀ ws₁ last i j n at room n₁ at₁ p n₂ at₂ q s) where
   abbrev link : LinkNumber i
   link = g .pre .place .link
 
@@ -125,7 +122,7 @@ module _ {ws₀ ws₁ : List ℕ} {last i j n at room n₁ at₁ p n₂ at₂ q 
       some-of : {m d : ℕ} {a b : Tree} → Roomy (merger m d a b) → 0 < d
       some-of (over some x y) = some
 
-  last-few : last ≤ 4
+  last-few : last ≤ mostLinks
   last-few = omega (arith, g .pre .links, g .pre .array .link .high)
 
   fed : Fed i j
@@ -156,7 +153,7 @@ module _ {ws₀ ws₁ : List ℕ} {last i j n at room n₁ at₁ p n₂ at₂ q 
 
   -- ---- where the loop begins
 
-  f₀ : Filling (first i + j) c t₁ t₂ ws₀ ws₁ 0 0
+  f₀ : Filling key (first i + j) c t₁ t₂ ws₀ ws₁ 0 0
   f₀ =
       begin (first i + j) c t₁ t₂ ws₀ among₀ (g .pre .array) ws₁ (g .pre .none) (subst (λ (u : Tree). MarksRight ws₀ u) tree-is (g .pre .marks))
       (rw numbers at (g .settled)) (rw numbers at (g .word))
@@ -170,7 +167,7 @@ module _ {ws₀ ws₁ : List ℕ} {last i j n at room n₁ at₁ p n₂ at₂ q 
   among₁ : Among t (many ws₁)
   among₁ = rw links₁ among₀
 
-  pub loop-begins : Filling (first i + j) c t₁ t₂ ws₁ ws₁ 0 0
+  pub loop-begins : Filling key (first i + j) c t₁ t₂ ws₁ ws₁ 0 0
   loop-begins = record {
     array = f₀ .array;
     kept = kept-none ws₁;
@@ -185,7 +182,7 @@ module _ {ws₀ ws₁ : List ℕ} {last i j n at room n₁ at₁ p n₂ at₂ q 
   }
 
   -- what was done from there is done from the start
-  pub from-start : {ws′ : List ℕ} {steps : ℕ} → Did ws₁ ws′ t (fill wholeWord t (buffersOf ws₁)) steps → Did ws₀ ws′ (subtree last i j) (fill wholeWord (subtree last i j) (buffersOf ws₀)) steps
+  pub from-start : {ws′ : List ℕ} {steps : ℕ} → Did ws₁ ws′ t (fill key t (buffersOf ws₁)) steps → Did ws₀ ws′ (subtree last i j) (fill key (subtree last i j) (buffersOf ws₀)) steps
   from-start d =
       rw tree-is
       record {
@@ -199,7 +196,7 @@ module _ {ws₀ ws₁ : List ℕ} {last i j n at room n₁ at₁ p n₂ at₂ q 
 
   -- ---- in the loop
 
-  module _ {ws : List ℕ} {filled steps : ℕ} (f : Filling (first i + j) c t₁ t₂ ws₁ ws filled steps) where
+  module _ {ws : List ℕ} {filled steps : ℕ} (f : Filling key (first i + j) c t₁ t₂ ws₁ ws filled steps) where
     links-now : linksIn ws ≡ linksIn ws₀
     links-now = kept-links (f .kept) ∙ links₁
 
@@ -220,10 +217,10 @@ module _ {ws₀ ws₁ : List ℕ} {last i j n at room n₁ at₁ p n₂ at₂ q 
     -- the steps so far are few
     pub steps-small : steps ≤ 4000000000
     steps-small =
-        let few : fill wholeWord t (buffersOf ws₁) .steps ≤ 4000000000 =
-        subst (λ (u : Tree). fill wholeWord u (buffersOf ws₁) .steps ≤ 4000000000) tree-is
-        (steps-few wholeWord ws₁ (f₀ .array) last (g .pre .place) (g .pre .counts) last-few (subst (λ (u : Tree). Among u (many ws₁)) (sym tree-is) among₁)) in
-        let sum : fill wholeWord t (buffersOf ws₁) .steps ≡ steps + filling wholeWord (first i + j) c t₁ t₂ (c - filled) (buffersOf ws) .steps = ap (λ z. z .steps) (f .law) in
+        let few : fill key t (buffersOf ws₁) .steps ≤ 4000000000 =
+        subst (λ (u : Tree). fill key u (buffersOf ws₁) .steps ≤ 4000000000) tree-is
+        (steps-few key ws₁ (f₀ .array) last (g .pre .place) (g .pre .counts) last-few (subst (λ (u : Tree). Among u (many ws₁)) (sym tree-is) among₁)) in
+        let sum : fill key t (buffersOf ws₁) .steps ≡ steps + filling key (first i + j) c t₁ t₂ (c - filled) (buffersOf ws) .steps = ap (λ z. z .steps) (f .law) in
         omega arith
 
     -- ---- the first input
@@ -237,12 +234,12 @@ module _ {ws₀ ws₁ : List ℕ} {last i j n at room n₁ at₁ p n₂ at₂ q 
     one-below : true ≡ true → first i + firstInput j < many ws
     one-below e = stands-below (first i + firstInput j) (in-first (top-stands (first i + firstInput j) t₁ top-one))
 
-    pub one-alone : wantedIn ws last i n₁ ≡ false → Did ws ws t₁ (refilled wholeWord t₁ (buffersOf ws)) 0
-    one-alone w = left-alone ws (f .array) (first i + firstInput j) t₁ (f .marks-one) true one-input one-below (sym one-said ∙ w)
+    pub one-alone : wantedIn ws last i n₁ ≡ false → Did ws ws t₁ (refilled key t₁ (buffersOf ws)) 0
+    one-alone w = left-alone key ws (f .array) (first i + firstInput j) t₁ (f .marks-one) true one-input one-below (sym one-said ∙ w)
 
-    pub one-filled : wantedIn ws last i n₁ ≡ true → (ws′ : List ℕ) (x : ℕ) → Did ws ws′ (subtree last i p) (fill wholeWord (subtree last i p) (buffersOf ws)) x
-        → Did ws ws′ t₁ (refilled wholeWord t₁ (buffersOf ws)) x
-    one-filled w ws′ x did = filled-now ws (f .array) (first i + firstInput j) t₁ (f .marks-one) true one-input one-below (sym one-said ∙ w) ws′ x (rw (g .p-is) at did)
+    pub one-filled : wantedIn ws last i n₁ ≡ true → (ws′ : List ℕ) (x : ℕ) → Did ws ws′ (subtree last i p) (fill key (subtree last i p) (buffersOf ws)) x
+        → Did ws ws′ t₁ (refilled key t₁ (buffersOf ws)) x
+    one-filled w ws′ x did = filled-now key ws (f .array) (first i + firstInput j) t₁ (f .marks-one) true one-input one-below (sym one-said ∙ w) ws′ x (rw (g .p-is) at did)
 
     pub one-can : wantedIn ws last i n₁ ≡ true → CanFill ws last i p
     one-can w =
@@ -261,12 +258,12 @@ module _ {ws₀ ws₁ : List ℕ} {last i j n at room n₁ at₁ p n₂ at₂ q 
 
     -- ---- the second input, after the first has been filled
 
-    module _ {wsA : List ℕ} {x : ℕ} (a : Did ws wsA t₁ (refilled wholeWord t₁ (buffersOf ws)) x) where
+    module _ {wsA : List ℕ} {x : ℕ} (a : Did ws wsA t₁ (refilled key t₁ (buffersOf ws)) x) where
       links-A : linksIn wsA ≡ linksIn ws₀
       links-A = kept-links (a .kept) ∙ links-now
 
       marks-A : MarksRight wsA t₂
-      marks-A = beside (first i + j) c t₁ t₂ ws₁ among₁ (rw (kept-links (f .kept))) a (f .marks-two)
+      marks-A = beside (first i + j) c t₁ t₂ ws₁ among₁ key (rw (kept-links (f .kept))) a (f .marks-two)
 
       two-said : wantedIn wsA last s n₂ ≡ leb (secondLink i j) last and wanted wsA (first (secondLink i j) + secondInput j)
       two-said = rw (g .s-is, g .two .number)
@@ -282,13 +279,13 @@ module _ {ws₀ ws₁ : List ℕ} {last i j n at room n₁ at₁ p n₂ at₂ q 
           let low′ : secondLink i j ≤ last = rw (g .s-is) at low in
           rw (g .two .number) (has wsA (first (secondLink i j) + secondInput j) (a .array) (two-below (le-leb (secondLink i j) last low′)))
 
-      pub two-alone : wantedIn wsA last s n₂ ≡ false → Did wsA wsA t₂ (refilled wholeWord t₂ (buffersOf wsA)) 0
-      two-alone w = left-alone wsA (a .array) (first (secondLink i j) + secondInput j) t₂ marks-A (leb (secondLink i j) last) input-two two-below (sym two-said ∙ w)
+      pub two-alone : wantedIn wsA last s n₂ ≡ false → Did wsA wsA t₂ (refilled key t₂ (buffersOf wsA)) 0
+      two-alone w = left-alone key wsA (a .array) (first (secondLink i j) + secondInput j) t₂ marks-A (leb (secondLink i j) last) input-two two-below (sym two-said ∙ w)
 
-      pub two-filled : wantedIn wsA last s n₂ ≡ true → (ws′ : List ℕ) (y : ℕ) → Did wsA ws′ (subtree last s q) (fill wholeWord (subtree last s q) (buffersOf wsA)) y
-          → Did wsA ws′ t₂ (refilled wholeWord t₂ (buffersOf wsA)) y
+      pub two-filled : wantedIn wsA last s n₂ ≡ true → (ws′ : List ℕ) (y : ℕ) → Did wsA ws′ (subtree last s q) (fill key (subtree last s q) (buffersOf wsA)) y
+          → Did wsA ws′ t₂ (refilled key t₂ (buffersOf wsA)) y
       two-filled w ws′ y did =
-          filled-now wsA (a .array) (first (secondLink i j) + secondInput j) t₂ marks-A (leb (secondLink i j) last) input-two two-below (sym two-said ∙ w) ws′ y (rw (g .s-is, g .q-is) at did)
+          filled-now key wsA (a .array) (first (secondLink i j) + secondInput j) t₂ marks-A (leb (secondLink i j) last) input-two two-below (sym two-said ∙ w) ws′ y (rw (g .s-is, g .q-is) at did)
 
       two-low : wantedIn wsA last s n₂ ≡ true → secondLink i j ≤ last
       two-low w = leb-true (secondLink i j) last (and-first (leb (secondLink i j) last) (wanted wsA (first (secondLink i j) + secondInput j)) (sym two-said ∙ w))
@@ -310,18 +307,17 @@ module _ {ws₀ ws₁ : List ℕ} {last i j n at room n₁ at₁ p n₂ at₂ q 
 
       -- ---- and then the run of merge steps
 
-      module _ {wsB : List ℕ} {y : ℕ} (b : Did wsA wsB t₂ (refilled wholeWord t₂ (buffersOf wsA)) y) (more : filled < room) where
+      module _ {wsB : List ℕ} {y : ℕ} (b : Did wsA wsB t₂ (refilled key t₂ (buffersOf wsA)) y) (more : filled < room) where
         more-room : filled < c
         more-room = omega (arith, g .room-is)
 
-        pub both : Filling (first i + j) c t₁ t₂ ws₁ wsB filled (steps + x + y)
-        both = refilled-both (first i + j) c t₁ t₂ ws₁ among₁ roomy-one roomy-two f more-room a b
-
-        pub both-one : Ready t₁ (buffersOf wsB)
-        both-one = ready-one (first i + j) c t₁ t₂ ws₁ among₁ roomy-one roomy-two f more-room a b
-
-        pub both-two : Ready t₂ (buffersOf wsB)
-        both-two = ready-two (first i + j) c t₁ t₂ ws₁ among₁ roomy-one roomy-two f more-room a b
+        pub both : Filling key (first i + j) c t₁ t₂ ws₁ wsB filled (steps + x + y) × Ready t₁ (buffersOf wsB) × Ready t₂ (buffersOf wsB) × (filled < room)
+        both = (
+          refilled-both (first i + j) c t₁ t₂ ws₁ among₁ roomy-one roomy-two f more-room a b,
+          ready-one (first i + j) c t₁ t₂ ws₁ among₁ roomy-one roomy-two f more-room a b,
+          ready-two (first i + j) c t₁ t₂ ws₁ among₁ roomy-one roomy-two f more-room a b,
+          more,
+        )
 
     -- ---- merge steps, and the end
 
@@ -361,8 +357,8 @@ module _ {ws₀ ws₁ : List ℕ} {last i j n at room n₁ at₁ p n₂ at₂ q 
           };
     }
 
-    module _ (r₁ : Ready t₁ (buffersOf ws)) (r₂ : Ready t₂ (buffersOf ws)) (m : ℕ) (e : m ≡ runLength wholeWord (room - filled) (bufferOf ws n₁) (seenIf (leb s last) (bufferOf ws n₂)))
-        {ws′ : List ℕ} (r : Ran ws ws′ n n₁ (touchedIf (leb s last) n₁ n₂) (turnedBy (leb s last) m ws n n₁ n₂)) where
+    module _ (r₁ : Ready t₁ (buffersOf ws)) (r₂ : Ready t₂ (buffersOf ws)) (m : ℕ) (e : m ≡ runLength key (room - filled) (bufferOf ws n₁) (seenIf (leb s last) (bufferOf ws n₂)))
+        {ws′ : List ℕ} (r : Ran ws ws′ n n₁ (touchedIf (leb s last) n₁ n₂) (turnedBy key (leb s last) m ws n n₁ n₂)) where
       abbrev N₁ : ℕ
       N₁ = first i + firstInput j
 
@@ -372,13 +368,13 @@ module _ {ws₀ ws₁ : List ℕ} {last i j n at room n₁ at₁ p n₂ at₂ q 
       abbrev B : Bool
       B = leb (secondLink i j) last
 
-      e′ : m ≡ runLength wholeWord (c - filled) (bufferOf ws N₁) (seenIf B (bufferOf ws N₂))
+      e′ : m ≡ runLength key (c - filled) (bufferOf ws N₁) (seenIf B (bufferOf ws N₂))
       e′ = rw (g .room-is, g .one .number, g .two .number, g .s-is) at e
 
-      r′ : Ran ws ws′ (first i + j) N₁ (touchedIf B N₁ N₂) (turnedBy B m ws (first i + j) N₁ N₂)
+      r′ : Ran ws ws′ (first i + j) N₁ (touchedIf B N₁ N₂) (turnedBy key B m ws (first i + j) N₁ N₂)
       r′ = rw (numbers, g .one .number, g .two .number, g .s-is) at r
 
-      pub next : Filling (first i + j) c t₁ t₂ ws₁ ws′ (filled + m) (steps + m)
+      pub next : Filling key (first i + j) c t₁ t₂ ws₁ ws′ (filled + m) (steps + m)
       next = run-made (first i + j) c t₁ t₂ ws₁ among₁ roomy-one roomy-two N₁ N₂ B top-one input-two f r₁ r₂ m e′ r′
 
       pub next-within : m ≤ room - filled
@@ -388,10 +384,10 @@ module _ {ws₀ ws₁ : List ℕ} {last i j n at room n₁ at₁ p n₂ at₂ q 
         more′ : filled < c
         more′ = omega (arith, g .room-is)
 
-        stops : fill wholeWord t (buffersOf ws₁) ≡ plus (steps + m) (untouched (buffersOf ws′))
+        stops : fill key t (buffersOf ws₁) ≡ plus (steps + m) (untouched (buffersOf ws′))
         stops = stopped (first i + j) c t₁ t₂ ws₁ among₁ roomy-one roomy-two N₁ N₂ B top-one input-two f r₁ r₂ m e′ r′ none more′
 
-        pub ended-some : Did ws₀ ws′ (subtree last i j) (fill wholeWord (subtree last i j) (buffersOf ws₀)) (steps + m)
+        pub ended-some : Did ws₀ ws′ (subtree last i j) (fill key (subtree last i j) (buffersOf ws₀)) (steps + m)
         ended-some = from-start (done (first i + j) c t₁ t₂ ws₁ among₁ next stops)
 
         pub empty-now : filled ≡ 0 → Emptied ws′ n
@@ -400,7 +396,7 @@ module _ {ws₀ ws₁ : List ℕ} {last i j n at room n₁ at₁ p n₂ at₂ q 
             omega-sum : (x y : ℕ) → x ≡ 0 → y ≡ 0 → x + y ≡ 0
             omega-sum x y p q = omega arith
 
-        pub ended-none : filled ≡ 0 → (ws″ : List ℕ) → Now ws′ ws″ n [] → Did ws₀ ws″ (subtree last i j) (fill wholeWord (subtree last i j) (buffersOf ws₀)) (steps + m)
+        pub ended-none : filled ≡ 0 → (ws″ : List ℕ) → Now ws′ ws″ n [] → Did ws₀ ws″ (subtree last i j) (fill key (subtree last i j) (buffersOf ws₀)) (steps + m)
         ended-none zero-filled ws″ z =
             let zero-now : filled + m ≡ 0 = omega arith in
             from-start (done-none (first i + j) c t₁ t₂ ws₁ among₁ next ws″ zero-now stops
@@ -408,7 +404,7 @@ module _ {ws₀ ws₁ : List ℕ} {last i j n at room n₁ at₁ p n₂ at₂ q 
             (none-in-two (first i + j) c t₁ t₂ ws₁ among₁ roomy-one roomy-two N₁ N₂ B top-one input-two f r₁ r₂ m e′ r′ none more′)
             (rw numbers at z))
 
-    pub ended-full : room ≤ filled → Did ws₀ ws (subtree last i j) (fill wholeWord (subtree last i j) (buffersOf ws₀)) steps
+    pub ended-full : room ≤ filled → Did ws₀ ws (subtree last i j) (fill key (subtree last i j) (buffersOf ws₀)) steps
     ended-full h = from-start (done-full (first i + j) c t₁ t₂ ws₁ among₁ f (omega (arith, g .room-is)))
 
 -- the same array and the same number under other names

@@ -1,20 +1,18 @@
 -- What the mergers' functions ask and ensure, with a name for each part.
 use mathlib.Core.Path.{_≡_}
-use mathlib.Core.Logic.{_≢_, _⊎_}
+use mathlib.Core.Logic.{_≢_}
 use mathlib.Core.Bool.{Bool, true, false, not}
-use Prim.Native.Nat.{ℕ, _+_, _-_, _≤_, _<_, min}
-use mathlib.Core.List.{List, [], _∷_, _++_}
+use Prim.Native.Nat.{ℕ, suc, _+_, _≤_, _<_}
+use mathlib.Core.List.{List, [], _++_}
 use lib.Dec.{eqb, leb}
-use lib.ListN.{length, getD, set, take, drop}
-use Rattle.rules.specs.Entries.{wholeWord}
-use Rattle.rules.specs.Links.{k, first, InLink}
+use lib.ListN.{set, take, drop}
+use Rattle.rules.specs.Links.{k, first, mostLinks, bookWords, InLink}
 use Rattle.rules.specs.Merge.{merged}
 use Rattle.rules.specs.Tree.{Buffers}
 use Rattle.rules.specs.Tests.{_and_}
 use Rattle.buffers.specs.Slots.{base, capacityOf}
 use Rattle.buffers.specs.Format.{wordOf, countOf, startOf, markOf, many, bufferOf, buffersOf}
 use Rattle.buffers.specs.Post.{Inside, Has, Kept}
-use Rattle.mergers.specs.Moves.{runLength}
 
 -- an input is to be filled: it is empty and has no mark
 abbrev pub wanted : List ℕ → ℕ → Bool
@@ -24,16 +22,16 @@ wanted ws n = eqb (countOf ws n) 0 and not (eqb (markOf ws n) 1)
 abbrev pub wantedIn : List ℕ → ℕ → ℕ → ℕ → Bool
 wantedIn ws last i n = leb i last and wanted ws n
 
--- link i's buffer j, or A of the link behind the last that there is, which has no slots
+-- link i's buffer j, which has a word in the book, or A of the link behind the last that there is, which has no slots
 pub record Spot (i j : ℕ) : Type 0 where
   pub low : 1 ≤ i
-  pub high : i ≤ 5
-  pub few : j < 32
-  pub inside : i ≤ 4 → InLink i j
+  pub high : i ≤ suc mostLinks
+  pub few : j < bookWords
+  pub inside : i ≤ mostLinks → InLink i j
 
 pub record Placed (i j n p : ℕ) : Type 0 where
   pub number : n ≡ first i + j
-  pub at : i ≤ 4 → p ≡ base (first i + j)
+  pub at : i ≤ mostLinks → p ≡ base (first i + j)
 
 -- a buffer that a merger feeds
 pub record Fed (i j : ℕ) : Type 0 where
@@ -76,9 +74,9 @@ abbrev pub movedBy : ℕ → List ℕ → ℕ → ℕ → Buffers
 movedBy m ws out one = set (set (buffersOf ws) out (bufferOf ws out ++ take m (bufferOf ws one))) one (drop m (bufferOf ws one))
 
 -- m merge steps from two inputs
-abbrev pub mergedBy : ℕ → List ℕ → ℕ → ℕ → ℕ → Buffers
-mergedBy m ws out one two =
-    let z = merged wholeWord m (bufferOf ws one) (bufferOf ws two) in
+abbrev pub mergedBy : (ℕ → ℕ) → ℕ → List ℕ → ℕ → ℕ → ℕ → Buffers
+mergedBy key m ws out one two =
+    let z = merged key m (bufferOf ws one) (bufferOf ws two) in
     set (set (set (buffersOf ws) out (bufferOf ws out ++ z .out)) one (z .one)) two (z .two)
 
 -- what a merger sees of its second input; which buffer merge steps touch beside the output and the first input; and what they then leave
@@ -90,6 +88,6 @@ abbrev pub touchedIf : Bool → ℕ → ℕ → ℕ
 touchedIf true one two = two
 touchedIf false one two = one
 
-abbrev pub turnedBy : Bool → ℕ → List ℕ → ℕ → ℕ → ℕ → Buffers
-turnedBy true m ws out one two = mergedBy m ws out one two
-turnedBy false m ws out one two = movedBy m ws out one
+abbrev pub turnedBy : (ℕ → ℕ) → Bool → ℕ → List ℕ → ℕ → ℕ → ℕ → Buffers
+turnedBy key true m ws out one two = mergedBy key m ws out one two
+turnedBy key false m ws out one two = movedBy m ws out one

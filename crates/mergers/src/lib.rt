@@ -3,8 +3,8 @@ ghost use mathlib.Core.Path.{_≡_};
 ghost use Prim.Native.Nat.{ℕ, suc, _+_, _*_, _≤_, _<_, min};
 ghost use lib.Dec.{leb};
 ghost use lib.ListN.{length};
-ghost use Rattle.rules.specs.Entries.{wholeWord};
-ghost use Rattle.rules.specs.Links.{capacity};
+ghost use Rattle.rules.specs.Entries.{keyBy};
+ghost use Rattle.rules.specs.Links.{capacity, mostLinks, bookWords};
 ghost use Rattle.rules.specs.Fill.{fill};
 ghost use Rattle.buffers.specs.Format.{bufferOf, buffersOf};
 ghost use Rattle.buffers.specs.Post.{Has};
@@ -14,6 +14,7 @@ ghost use Rattle.mergers.specs.Subtree.{subtree, firstInput, secondInput
 ghost use Rattle.mergers.specs.Fills.{CanFill, Did};
 ghost use Rattle.mergers.specs.Post.{wanted, Spot, Placed, Moving, Fed, Merging, Turning, Ran, wantedIn, movedBy, mergedBy, seenIf, touchedIf, turnedBy};
 use rules::Link;
+use rules::Rule;
 
 // A buffer: its number, and the word at which its slots begin.
 pub struct Place {
@@ -38,7 +39,7 @@ pub fn place_of(i: usize, j: usize) -> Place
 
 // The first input of the merger whose output is buffer j of its link.
 pub fn first_input(j: usize) -> usize
-    requires { ⌜ j < 32 ⌝ }
+    requires { ⌜ j < bookWords ⌝ }
     ensures { λ r. ⌜ r ≡ firstInput j ⌝ }
 {
     if j == 0 { 1 } else { 2 * j }
@@ -46,14 +47,14 @@ pub fn first_input(j: usize) -> usize
 
 // Its second input, and the link that has it.
 pub fn second_input(j: usize) -> usize
-    requires { ⌜ j < 32 ⌝ }
+    requires { ⌜ j < bookWords ⌝ }
     ensures { λ r. ⌜ r ≡ secondInput j ⌝ }
 {
     if j == 0 { 0 } else { 2 * j + 1 }
 }
 
 pub fn second_link(i: usize, j: usize) -> usize
-    requires { ⌜ i < 5 ⌝ }
+    requires { ⌜ i ≤ mostLinks ⌝ }
     ensures { λ r. ⌜ r ≡ secondLink i j ⌝ }
 {
     if j == 0 { i + 1 } else { i }
@@ -131,10 +132,17 @@ pub fn move_steps(a: &mut [u64], out: Place, room: usize, one: Place) -> usize
 }
 
 // Merge steps from two inputs, until one is empty or the room used up.
-pub fn merge_both(a: &mut [u64], out: Place, room: usize, one: Place, two: Place) -> usize
+pub fn merge_both(
+    rule: Rule,
+    a: &mut [u64],
+    out: Place,
+    room: usize,
+    one: Place,
+    two: Place,
+) -> usize
     requires { ⌜ Merging (now a) (out .number) (out .at) room (one .number) (one .at) (two .number) (two .at) ⌝ }
-    ensures { λ r. ⌜ r ≡ untilEmpty wholeWord room (bufferOf (now (a .entry)) (one .number)) (bufferOf (now (a .entry)) (two .number)) ⌝ }
-    ensures { λ r. ⌜ Ran (now (a .entry)) (now (a .exit)) (out .number) (one .number) (two .number) (mergedBy r (now (a .entry)) (out .number) (one .number) (two .number)) ⌝ }
+    ensures { λ r. ⌜ r ≡ untilEmpty (keyBy rule) room (bufferOf (now (a .entry)) (one .number)) (bufferOf (now (a .entry)) (two .number)) ⌝ }
+    ensures { λ r. ⌜ Ran (now (a .entry)) (now (a .exit)) (out .number) (one .number) (two .number) (mergedBy (keyBy rule) r (now (a .entry)) (out .number) (one .number) (two .number)) ⌝ }
 {
     let n = out.number;
     let k = one.number;
@@ -144,7 +152,7 @@ pub fn merge_both(a: &mut [u64], out: Place, room: usize, one: Place, two: Place
     let q = two.at + buffers::start_place(a, l);
     let q_end = q + buffers::count(a, l);
     let to = out.at + buffers::start_place(a, n) + buffers::count(a, n);
-    let run = runs::merge_run(a, to, p, p_end, q, q_end, room);
+    let run = runs::merge_run(rule, a, to, p, p_end, q, q_end, room);
     let m = run.moved;
     let f = run.first;
     buffers::grow(a, n, m);
@@ -154,10 +162,17 @@ pub fn merge_both(a: &mut [u64], out: Place, room: usize, one: Place, two: Place
 }
 
 // Merge steps from two inputs, until one that has entries is empty or the room used up.
-pub fn merge_steps(a: &mut [u64], out: Place, room: usize, one: Place, two: Place) -> usize
+pub fn merge_steps(
+    rule: Rule,
+    a: &mut [u64],
+    out: Place,
+    room: usize,
+    one: Place,
+    two: Place,
+) -> usize
     requires { ⌜ Merging (now a) (out .number) (out .at) room (one .number) (one .at) (two .number) (two .at) ⌝ }
-    ensures { λ r. ⌜ r ≡ runLength wholeWord room (bufferOf (now (a .entry)) (one .number)) (bufferOf (now (a .entry)) (two .number)) ⌝ }
-    ensures { λ r. ⌜ Ran (now (a .entry)) (now (a .exit)) (out .number) (one .number) (two .number) (mergedBy r (now (a .entry)) (out .number) (one .number) (two .number)) ⌝ }
+    ensures { λ r. ⌜ r ≡ runLength (keyBy rule) room (bufferOf (now (a .entry)) (one .number)) (bufferOf (now (a .entry)) (two .number)) ⌝ }
+    ensures { λ r. ⌜ Ran (now (a .entry)) (now (a .exit)) (out .number) (one .number) (two .number) (mergedBy (keyBy rule) r (now (a .entry)) (out .number) (one .number) (two .number)) ⌝ }
 {
     if buffers::count(a, one.number) == 0 {
         return move_steps(a, out, room, two);
@@ -165,7 +180,7 @@ pub fn merge_steps(a: &mut [u64], out: Place, room: usize, one: Place, two: Plac
     if buffers::count(a, two.number) == 0 {
         return move_steps(a, out, room, one);
     }
-    merge_both(a, out, room, one, two)
+    merge_both(rule, a, out, room, one, two)
 }
 
 // Whether an input in link i is to be filled, where links behind `last` count as exhausted.
@@ -181,6 +196,7 @@ pub fn wants_in(a: &[u64], last: usize, i: usize, n: usize) -> bool
 
 // Merge steps of one turn; the second input is in link i, where links behind `last` count as exhausted.
 pub fn turn_steps(
+    rule: Rule,
     a: &mut [u64],
     last: usize,
     i: usize,
@@ -190,19 +206,19 @@ pub fn turn_steps(
     two: Place,
 ) -> usize
     requires { ⌜ Turning (now a) last i (out .number) (out .at) room (one .number) (one .at) (two .number) (two .at) ⌝ }
-    ensures { λ r. ⌜ r ≡ runLength wholeWord room (bufferOf (now (a .entry)) (one .number)) (seenIf (leb i last) (bufferOf (now (a .entry)) (two .number))) ⌝ }
-    ensures { λ r. ⌜ Ran (now (a .entry)) (now (a .exit)) (out .number) (one .number) (touchedIf (leb i last) (one .number) (two .number)) (turnedBy (leb i last) r (now (a .entry)) (out .number) (one .number) (two .number)) ⌝ }
+    ensures { λ r. ⌜ r ≡ runLength (keyBy rule) room (bufferOf (now (a .entry)) (one .number)) (seenIf (leb i last) (bufferOf (now (a .entry)) (two .number))) ⌝ }
+    ensures { λ r. ⌜ Ran (now (a .entry)) (now (a .exit)) (out .number) (one .number) (touchedIf (leb i last) (one .number) (two .number)) (turnedBy (keyBy rule) (leb i last) r (now (a .entry)) (out .number) (one .number) (two .number)) ⌝ }
 {
     if i <= last {
-        return merge_steps(a, out, room, one, two);
+        return merge_steps(rule, a, out, room, one, two);
     }
     move_steps(a, out, room, one)
 }
 
 // Fills link i's buffer j, which is empty: merge steps until it is full or nothing is left below. Links behind `last` count as exhausted. Answers the merge steps.
-pub fn fill(a: &mut [u64], last: usize, i: usize, j: usize) -> u64
+pub fn fill(rule: Rule, a: &mut [u64], last: usize, i: usize, j: usize) -> u64
     requires { ⌜ CanFill (now a) last i j ⌝ }
-    ensures { λ r. ⌜ Did (now (a .entry)) (now (a .exit)) (subtree last i j) (fill wholeWord (subtree last i j) (buffersOf (now (a .entry)))) r ⌝ }
+    ensures { λ r. ⌜ Did (now (a .entry)) (now (a .exit)) (subtree last i j) (fill (keyBy rule) (subtree last i j) (buffersOf (now (a .entry)))) r ⌝ }
 {
     if Link::at(i).k() <= j {
         return 0;
@@ -215,13 +231,13 @@ pub fn fill(a: &mut [u64], last: usize, i: usize, j: usize) -> u64
     while filled < v.room {
         let mut x: u64 = 0;
         if wants_in(a, last, i, v.one.number) {
-            x = fill(a, last, i, v.first);
+            x = fill(rule, a, last, i, v.first);
         }
         let mut y: u64 = 0;
         if wants_in(a, last, v.link, v.two.number) {
-            y = fill(a, last, v.link, v.second);
+            y = fill(rule, a, last, v.link, v.second);
         }
-        let m = turn_steps(a, last, v.link, v.out, v.room - filled, v.one, v.two);
+        let m = turn_steps(rule, a, last, v.link, v.out, v.room - filled, v.one, v.two);
         steps = steps + x + y + m as u64;
         if m == 0 {
             if filled == 0 {

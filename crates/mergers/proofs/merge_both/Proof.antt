@@ -7,6 +7,39 @@ use borrow.Author.Needs.{needs}
 use Rattle.mergers.proofs.merge_both.Statement.{statement}
 use Rattle.mergers.proofs.merge_both.Tie as tie
 
+-- where the first and the second input have been read
+abbrev one-read : tie.After-count2 → tie.After-count
+one-read c = c .before .before .before .before .before
+
+abbrev two-read : tie.After-count3 → tie.After-count2
+two-read c = c .before .before .before .before .before
+
+abbrev start : tie.After-count → tie.Start
+start c = c .before .before .before .before .before .before
+
+-- all three are found where the book says
+found : (c : tie.After-count3)
+    → let two = two-read c in let one = one-read two in let z = start one in
+    Found (z .args .a .now) (z .args .out .number) (z .args .out .at) (z .args .room) (z .args .one .number) (z .args .one .at) (z .args .two .number) (z .args .two .at) (z .pre)
+    (z .args .one .at + one .before .before .before .start-place .result)
+    (z .args .one .at + one .before .before .before .start-place .result + one .count .result)
+    (z .args .two .at + two .before .before .before .start-place2 .result)
+    (z .args .two .at + two .before .before .before .start-place2 .result + two .count2 .result)
+    (z .args .out .at + c .before .before .before .start-place3 .result + c .count3 .result)
+found c =
+    let two = two-read c in
+    let one = one-read two in
+    let z = start one in
+    let ws = z .args .a .now in
+    let h = z .pre in
+    record {
+      p-is = omega (arith, one .before .before .before .start-place .ensures, h .first .input .begins);
+      p-end-is = omega (arith, one .count .ensures, buffer-length ws (z .args .one .number) (h .first .input .of));
+      q-is = omega (arith, two .before .before .before .start-place2 .ensures, h .second .input .begins);
+      q-end-is = omega (arith, two .count2 .ensures, buffer-length ws (z .args .two .number) (h .second .input .of));
+      r-is = omega (arith, c .before .before .before .start-place3 .ensures, c .count3 .ensures, buffer-length ws (z .args .out .number) (h .first .output .of), h .first .output .begins);
+    }
+
 start-place-requires : tie.Need-start-place-requires
 start-place-requires c κs = search needs
 
@@ -18,8 +51,9 @@ count-requires c κs = search needs
 
 add-p-end : tie.Need-add-p-end
 add-p-end c =
-    let z = c .before .before .before .before .before .before in
-    omega (arith, c .before .before .before .start-place .ensures, c .count .ensures, buffer-length (z .args .a .now) (z .args .one .number) (z .pre .first .input .of), z .pre .first .input .begins, z .pre .first .input .of .fits, z .pre .first .input .of .slots)
+    let z = start c in
+    let of = z .pre .first .input in
+    omega (arith, c .before .before .before .start-place .ensures, c .count .ensures, buffer-length (z .args .a .now) (z .args .one .number) (of .of), of .begins, of .of .fits, of .of .slots)
 
 start-place-requires-2 : tie.Need-start-place-requires-2
 start-place-requires-2 c κs = search needs
@@ -32,8 +66,9 @@ count-requires-2 c κs = search needs
 
 add-q-end : tie.Need-add-q-end
 add-q-end c =
-    let z = c .before .before .before .before .before .before .before .before .before .before .before in
-    omega (arith, c .before .before .before .start-place2 .ensures, c .count2 .ensures, buffer-length (z .args .a .now) (z .args .two .number) (z .pre .second .input .of), z .pre .second .input .begins, z .pre .second .input .of .fits, z .pre .second .input .of .slots)
+    let z = start (one-read c) in
+    let of = z .pre .second .input in
+    omega (arith, c .before .before .before .start-place2 .ensures, c .count2 .ensures, buffer-length (z .args .a .now) (z .args .two .number) (of .of), of .begins, of .of .fits, of .of .slots)
 
 start-place-requires-3 : tie.Need-start-place-requires-3
 start-place-requires-3 c κs = search needs
@@ -46,127 +81,46 @@ count-requires-3 c κs = search needs
 
 add-to-2 : tie.Need-add-to-2
 add-to-2 c =
-    let z = c .before .before .before .before .before .before .before .before .before .before .before .before .before .before .before .before in
-    omega (arith, c .before .before .before .start-place3 .ensures, c .count3 .ensures, buffer-length (z .args .a .now) (z .args .out .number) (z .pre .first .output .of), z .pre .first .output .begins, z .pre .first .free, z .pre .first .output .of .slots)
+    let h = start (one-read (two-read c)) .pre in
+    omega (arith, found c .r-is, h .first .free, h .first .output .of .slots)
 
 merge-run-requires : tie.Need-merge-run-requires
-merge-run-requires c κs =
-    let z = c .before .before .before .before .before .before .before .before .before .before .before .before .before .before .before .before .before in
-    let ws = z .args .a .now in
-    let h = z .pre in
-    let one = z .args .one in
-    let two = z .args .two in
-    let out = z .args .out in
-    let f : Found ws (out .number) (out .at) (z .args .room) (one .number) (one .at) (two .number) (two .at) h (one .at + c .before .before .before .before .before .before .before .before .before .before .before .before .before .before .start-place .result) (one .at + c .before .before .before .before .before .before .before .before .before .before .before .before .before .before .start-place .result + c .before .before .before .before .before .before .before .before .before .before .before .count .result)
-    (two .at + c .before .before .before .before .before .before .before .before .before .start-place2 .result) (two .at + c .before .before .before .before .before .before .before .before .before .start-place2 .result + c .before .before .before .before .before .before .count2 .result) (out .at + c .before .before .before .before .start-place3 .result + c .before .count3 .result) =
-    record {
-      p-is = omega (arith, c .before .before .before .before .before .before .before .before .before .before .before .before .before .before .start-place .ensures, h .first .input .begins);
-      p-end-is = omega (arith, c .before .before .before .before .before .before .before .before .before .before .before .count .ensures, buffer-length ws (one .number) (h .first .input .of));
-      q-is = omega (arith, c .before .before .before .before .before .before .before .before .before .start-place2 .ensures, h .second .input .begins);
-      q-end-is = omega (arith, c .before .before .before .before .before .before .count2 .ensures, buffer-length ws (two .number) (h .second .input .of));
-      r-is = omega (arith, c .before .before .before .before .start-place3 .ensures, c .before .count3 .ensures, buffer-length ws (out .number) (h .first .output .of), h .first .output .begins);
-    } in
-    stretches ws (out .number) (out .at) (z .args .room) (one .number) (one .at) (two .number) (two .at) h f
+merge-run-requires c κs = stretches (found (c .before))
 
 grow-requires : tie.Need-grow-requires
 grow-requires c κs =
-    let z = c .before .before .before .before .before .before .before .before .before .before .before .before .before .before .before .before .before .before .before .before .before in
-    let ws = z .args .a .now in
-    let h = z .pre in
-    let one = z .args .one in
-    let two = z .args .two in
-    let out = z .args .out in
-    let f : Found ws (out .number) (out .at) (z .args .room) (one .number) (one .at) (two .number) (two .at) h (one .at + c .before .before .before .before .before .before .before .before .before .before .before .before .before .before .before .before .before .before .start-place .result) (one .at + c .before .before .before .before .before .before .before .before .before .before .before .before .before .before .before .before .before .before .start-place .result + c .before .before .before .before .before .before .before .before .before .before .before .before .before .before .before .count .result)
-    (two .at + c .before .before .before .before .before .before .before .before .before .before .before .before .before .start-place2 .result) (two .at + c .before .before .before .before .before .before .before .before .before .before .before .before .before .start-place2 .result + c .before .before .before .before .before .before .before .before .before .before .count2 .result) (out .at + c .before .before .before .before .before .before .before .before .start-place3 .result + c .before .before .before .before .before .count3 .result) =
-    record {
-      p-is = omega (arith, c .before .before .before .before .before .before .before .before .before .before .before .before .before .before .before .before .before .before .start-place .ensures, h .first .input .begins);
-      p-end-is = omega (arith, c .before .before .before .before .before .before .before .before .before .before .before .before .before .before .before .count .ensures, buffer-length ws (one .number) (h .first .input .of));
-      q-is = omega (arith, c .before .before .before .before .before .before .before .before .before .before .before .before .before .start-place2 .ensures, h .second .input .begins);
-      q-end-is = omega (arith, c .before .before .before .before .before .before .before .before .before .before .count2 .ensures, buffer-length ws (two .number) (h .second .input .of));
-      r-is = omega (arith, c .before .before .before .before .before .before .before .before .start-place3 .ensures, c .before .before .before .before .before .count3 .ensures, buffer-length ws (out .number) (h .first .output .of), h .first .output .begins);
-    } in
-    both-growing ws (out .number) (out .at) (z .args .room) (one .number) (one .at) (two .number) (two .at) h f _ _ _ (c .before .before .before .merge-run .ensures)
+    let m = c .before .before .before in
+    both-growing (found (m .before .before)) _ _ _ (m .merge-run .ensures)
 
 drop-front-requires : tie.Need-drop-front-requires
 drop-front-requires c κs =
-    let z = c .before .before .before .before .before .before .before .before .before .before .before .before .before .before .before .before .before .before .before .before .before .before .before .before .before in
-    let ws = z .args .a .now in
-    let h = z .pre in
-    let one = z .args .one in
-    let two = z .args .two in
-    let out = z .args .out in
-    let f : Found ws (out .number) (out .at) (z .args .room) (one .number) (one .at) (two .number) (two .at) h (one .at + c .before .before .before .before .before .before .before .before .before .before .before .before .before .before .before .before .before .before .before .before .before .before .start-place .result) (one .at + c .before .before .before .before .before .before .before .before .before .before .before .before .before .before .before .before .before .before .before .before .before .before .start-place .result + c .before .before .before .before .before .before .before .before .before .before .before .before .before .before .before .before .before .before .before .count .result)
-    (two .at + c .before .before .before .before .before .before .before .before .before .before .before .before .before .before .before .before .before .start-place2 .result) (two .at + c .before .before .before .before .before .before .before .before .before .before .before .before .before .before .before .before .before .start-place2 .result + c .before .before .before .before .before .before .before .before .before .before .before .before .before .before .count2 .result) (out .at + c .before .before .before .before .before .before .before .before .before .before .before .before .start-place3 .result + c .before .before .before .before .before .before .before .before .before .count3 .result) =
-    record {
-      p-is = omega (arith, c .before .before .before .before .before .before .before .before .before .before .before .before .before .before .before .before .before .before .before .before .before .before .start-place .ensures, h .first .input .begins);
-      p-end-is = omega (arith, c .before .before .before .before .before .before .before .before .before .before .before .before .before .before .before .before .before .before .before .count .ensures, buffer-length ws (one .number) (h .first .input .of));
-      q-is = omega (arith, c .before .before .before .before .before .before .before .before .before .before .before .before .before .before .before .before .before .start-place2 .ensures, h .second .input .begins);
-      q-end-is = omega (arith, c .before .before .before .before .before .before .before .before .before .before .before .before .before .before .count2 .ensures, buffer-length ws (two .number) (h .second .input .of));
-      r-is = omega (arith, c .before .before .before .before .before .before .before .before .before .before .before .before .start-place3 .ensures, c .before .before .before .before .before .before .before .before .before .count3 .ensures, buffer-length ws (out .number) (h .first .output .of), h .first .output .begins);
-    } in
-    one-dropping ws (out .number) (out .at) (z .args .room) (one .number) (one .at) (two .number) (two .at) h f _ _ _ (c .before .before .before .before .before .before .before .merge-run .ensures) _ (c .before .before .before .grow .ensures .0) (c .before .before .before .grow .ensures .1)
+    let g = c .before .before .before in
+    let m = g .before .before .before .before in
+    one-dropping (found (m .before .before)) _ _ _ (m .merge-run .ensures) _ (g .grow .ensures .0) (g .grow .ensures .1)
 
 sub-drop-front : tie.Need-sub-drop-front
 sub-drop-front c = search needs
 
 drop-front-requires-2 : tie.Need-drop-front-requires-2
 drop-front-requires-2 c κs =
-    let z = c .before .before .before .before .before .before .before .before .before .before .before .before .before .before .before .before .before .before .before .before .before .before .before .before .before .before .before .before .before in
-    let ws = z .args .a .now in
-    let h = z .pre in
-    let one = z .args .one in
-    let two = z .args .two in
-    let out = z .args .out in
-    let f : Found ws (out .number) (out .at) (z .args .room) (one .number) (one .at) (two .number) (two .at) h (one .at + c .before .before .before .before .before .before .before .before .before .before .before .before .before .before .before .before .before .before .before .before .before .before .before .before .before .before .start-place .result) (one .at + c .before .before .before .before .before .before .before .before .before .before .before .before .before .before .before .before .before .before .before .before .before .before .before .before .before .before .start-place .result + c .before .before .before .before .before .before .before .before .before .before .before .before .before .before .before .before .before .before .before .before .before .before .before .count .result)
-    (two .at + c .before .before .before .before .before .before .before .before .before .before .before .before .before .before .before .before .before .before .before .before .before .start-place2 .result) (two .at + c .before .before .before .before .before .before .before .before .before .before .before .before .before .before .before .before .before .before .before .before .before .start-place2 .result + c .before .before .before .before .before .before .before .before .before .before .before .before .before .before .before .before .before .before .count2 .result) (out .at + c .before .before .before .before .before .before .before .before .before .before .before .before .before .before .before .before .start-place3 .result + c .before .before .before .before .before .before .before .before .before .before .before .before .before .count3 .result) =
-    record {
-      p-is = omega (arith, c .before .before .before .before .before .before .before .before .before .before .before .before .before .before .before .before .before .before .before .before .before .before .before .before .before .before .start-place .ensures, h .first .input .begins);
-      p-end-is = omega (arith, c .before .before .before .before .before .before .before .before .before .before .before .before .before .before .before .before .before .before .before .before .before .before .before .count .ensures, buffer-length ws (one .number) (h .first .input .of));
-      q-is = omega (arith, c .before .before .before .before .before .before .before .before .before .before .before .before .before .before .before .before .before .before .before .before .before .start-place2 .ensures, h .second .input .begins);
-      q-end-is = omega (arith, c .before .before .before .before .before .before .before .before .before .before .before .before .before .before .before .before .before .before .count2 .ensures, buffer-length ws (two .number) (h .second .input .of));
-      r-is = omega (arith, c .before .before .before .before .before .before .before .before .before .before .before .before .before .before .before .before .start-place3 .ensures, c .before .before .before .before .before .before .before .before .before .before .before .before .before .count3 .ensures, buffer-length ws (out .number) (h .first .output .of), h .first .output .begins);
-    } in
-    two-dropping ws (out .number) (out .at) (z .args .room) (one .number) (one .at) (two .number) (two .at) h f _ _ _ (c .before .before .before .before .before .before .before .before .before .before .before .merge-run .ensures) _ (c .before .before .before .before .before .before .before .grow .ensures .0) (c .before .before .before .before .before .before .before .grow .ensures .1) _ (c .before .before .before .drop-front .ensures .0) (c .before .before .before .drop-front .ensures .1)
-
-same-length : tie.Need-same-length
-same-length c =
-    let z = c .before .before .before .before .before .before .before .before .before .before .before .before .before .before .before .before .before .before .before .before .before .before .before .before .before .before .before .before .before .before .before .before in
-    let ws = z .args .a .now in
-    let h = z .pre in
-    let one = z .args .one in
-    let two = z .args .two in
-    let out = z .args .out in
-    let f : Found ws (out .number) (out .at) (z .args .room) (one .number) (one .at) (two .number) (two .at) h (one .at + c .before .before .before .before .before .before .before .before .before .before .before .before .before .before .before .before .before .before .before .before .before .before .before .before .before .before .before .before .before .start-place .result) (one .at + c .before .before .before .before .before .before .before .before .before .before .before .before .before .before .before .before .before .before .before .before .before .before .before .before .before .before .before .before .before .start-place .result + c .before .before .before .before .before .before .before .before .before .before .before .before .before .before .before .before .before .before .before .before .before .before .before .before .before .before .count .result)
-    (two .at + c .before .before .before .before .before .before .before .before .before .before .before .before .before .before .before .before .before .before .before .before .before .before .before .before .start-place2 .result) (two .at + c .before .before .before .before .before .before .before .before .before .before .before .before .before .before .before .before .before .before .before .before .before .before .before .before .start-place2 .result + c .before .before .before .before .before .before .before .before .before .before .before .before .before .before .before .before .before .before .before .before .before .count2 .result) (out .at + c .before .before .before .before .before .before .before .before .before .before .before .before .before .before .before .before .before .before .before .start-place3 .result + c .before .before .before .before .before .before .before .before .before .before .before .before .before .before .before .before .count3 .result) =
-    record {
-      p-is = omega (arith, c .before .before .before .before .before .before .before .before .before .before .before .before .before .before .before .before .before .before .before .before .before .before .before .before .before .before .before .before .before .start-place .ensures, h .first .input .begins);
-      p-end-is = omega (arith, c .before .before .before .before .before .before .before .before .before .before .before .before .before .before .before .before .before .before .before .before .before .before .before .before .before .before .count .ensures, buffer-length ws (one .number) (h .first .input .of));
-      q-is = omega (arith, c .before .before .before .before .before .before .before .before .before .before .before .before .before .before .before .before .before .before .before .before .before .before .before .before .start-place2 .ensures, h .second .input .begins);
-      q-end-is = omega (arith, c .before .before .before .before .before .before .before .before .before .before .before .before .before .before .before .before .before .before .before .before .before .count2 .ensures, buffer-length ws (two .number) (h .second .input .of));
-      r-is = omega (arith, c .before .before .before .before .before .before .before .before .before .before .before .before .before .before .before .before .before .before .before .start-place3 .ensures, c .before .before .before .before .before .before .before .before .before .before .before .before .before .before .before .before .count3 .ensures, buffer-length ws (out .number) (h .first .output .of), h .first .output .begins);
-    } in
-    both-ran ws (out .number) (out .at) (z .args .room) (one .number) (one .at) (two .number) (two .at) h f _ _ _ (c .before .before .before .before .before .before .before .before .before .before .before .before .before .before .merge-run .ensures) _ (c .before .before .before .before .before .before .before .before .before .before .grow .ensures .0) (c .before .before .before .before .before .before .before .before .before .before .grow .ensures .1) _ (c .before .before .before .before .before .before .drop-front .ensures .0) (c .before .before .before .before .before .before .drop-front .ensures .1) _ (c .before .before .drop-front2 .ensures .0) (c .before .before .drop-front2 .ensures .1) .kept .long
+    let d = c .before .before .before in
+    let g = d .before .before .before .before in
+    let m = g .before .before .before .before in
+    two-dropping (found (m .before .before)) _ _ _ (m .merge-run .ensures) _ (g .grow .ensures .0) (g .grow .ensures .1) _ (d .drop-front .ensures .0) (d .drop-front .ensures .1)
 
 returns : tie.Need-returns
 returns c =
-    let z = c .before .before .before .before .before .before .before .before .before .before .before .before .before .before .before .before .before .before .before .before .before .before .before .before .before .before .before .before .before .before .before .before in
-    let ws = z .args .a .now in
-    let h = z .pre in
-    let one = z .args .one in
-    let two = z .args .two in
-    let out = z .args .out in
-    let f : Found ws (out .number) (out .at) (z .args .room) (one .number) (one .at) (two .number) (two .at) h (one .at + c .before .before .before .before .before .before .before .before .before .before .before .before .before .before .before .before .before .before .before .before .before .before .before .before .before .before .before .before .before .start-place .result) (one .at + c .before .before .before .before .before .before .before .before .before .before .before .before .before .before .before .before .before .before .before .before .before .before .before .before .before .before .before .before .before .start-place .result + c .before .before .before .before .before .before .before .before .before .before .before .before .before .before .before .before .before .before .before .before .before .before .before .before .before .before .count .result)
-    (two .at + c .before .before .before .before .before .before .before .before .before .before .before .before .before .before .before .before .before .before .before .before .before .before .before .before .start-place2 .result) (two .at + c .before .before .before .before .before .before .before .before .before .before .before .before .before .before .before .before .before .before .before .before .before .before .before .before .start-place2 .result + c .before .before .before .before .before .before .before .before .before .before .before .before .before .before .before .before .before .before .before .before .before .count2 .result) (out .at + c .before .before .before .before .before .before .before .before .before .before .before .before .before .before .before .before .before .before .before .start-place3 .result + c .before .before .before .before .before .before .before .before .before .before .before .before .before .before .before .before .count3 .result) =
-    record {
-      p-is = omega (arith, c .before .before .before .before .before .before .before .before .before .before .before .before .before .before .before .before .before .before .before .before .before .before .before .before .before .before .before .before .before .start-place .ensures, h .first .input .begins);
-      p-end-is = omega (arith, c .before .before .before .before .before .before .before .before .before .before .before .before .before .before .before .before .before .before .before .before .before .before .before .before .before .before .count .ensures, buffer-length ws (one .number) (h .first .input .of));
-      q-is = omega (arith, c .before .before .before .before .before .before .before .before .before .before .before .before .before .before .before .before .before .before .before .before .before .before .before .before .start-place2 .ensures, h .second .input .begins);
-      q-end-is = omega (arith, c .before .before .before .before .before .before .before .before .before .before .before .before .before .before .before .before .before .before .before .before .before .count2 .ensures, buffer-length ws (two .number) (h .second .input .of));
-      r-is = omega (arith, c .before .before .before .before .before .before .before .before .before .before .before .before .before .before .before .before .before .before .before .start-place3 .ensures, c .before .before .before .before .before .before .before .before .before .before .before .before .before .before .before .before .count3 .ensures, buffer-length ws (out .number) (h .first .output .of), h .first .output .begins);
-    } in (
-      run ws (out .number) (out .at) (z .args .room) (one .number) (one .at) (two .number) (two .at) h f _ _ _ (c .before .before .before .before .before .before .before .before .before .before .before .before .before .before .merge-run .ensures) .steps,
-      both-ran ws (out .number) (out .at) (z .args .room) (one .number) (one .at) (two .number) (two .at) h f _ _ _ (c .before .before .before .before .before .before .before .before .before .before .before .before .before .before .merge-run .ensures) _ (c .before .before .before .before .before .before .before .before .before .before .grow .ensures .0) (c .before .before .before .before .before .before .before .before .before .before .grow .ensures .1) _ (c .before .before .before .before .before .before .drop-front .ensures .0) (c .before .before .before .before .before .before .drop-front .ensures .1) _ (c .before .before .drop-front2 .ensures .0) (c .before .before .drop-front2 .ensures .1),
+    let e = c .before .before in
+    let d = e .before .before .before .before in
+    let g = d .before .before .before .before in
+    let m = g .before .before .before .before in (
+      run (found (m .before .before)) _ _ _ (m .merge-run .ensures) .steps,
+      both-ran (found (m .before .before)) _ _ _ (m .merge-run .ensures) _ (g .grow .ensures .0) (g .grow .ensures .1) _ (d .drop-front .ensures .0) (d .drop-front .ensures .1)
+          _ (e .drop-front2 .ensures .0) (e .drop-front2 .ensures .1),
     )
+
+same-length : tie.Need-same-length
+same-length c = returns c .1 .kept .long
 
 pub merge-both-spec : {M : Type 1} → statement M
 merge-both-spec =

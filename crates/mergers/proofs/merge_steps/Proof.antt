@@ -1,10 +1,8 @@
 -- `merge_steps` makes merge steps from whichever inputs have entries.
-use mathlib.Core.Path.{_≡_, sym, _∙_}
-use mathlib.Core.List.{[]}
+use mathlib.Core.Path.{sym, _∙_}
 use Prim.Native.Nat.{_<_}
 use native.Mathlib.Omega.{arith}
 use lib.ListN.{length}
-use Rattle.rules.specs.Entries.{wholeWord}
 use Rattle.rules.proofs.Full.{no-entries}
 use Rattle.buffers.specs.Format.{bufferOf}
 use Rattle.mergers.proofs.TurnLaws.{run-second, run-first, run-both}
@@ -12,6 +10,13 @@ use Rattle.mergers.proofs.MoveLaws.{second-alone, first-alone}
 use borrow.Author.Needs.{needs}
 use Rattle.mergers.proofs.merge_steps.Statement.{statement}
 use Rattle.mergers.proofs.merge_steps.Tie as tie
+
+-- back to the start, and past the test of the first input
+abbrev start : tie.After-count → tie.Start
+start c = c .before .before .before
+
+some : (c : tie.Else1) → let z = start (c .before) in 0 < length (bufferOf (z .args .a .now) (z .args .one .number))
+some c = omega (arith, c .before .count .ensures, c .if1 .left)
 
 count-requires : tie.Need-count-requires
 count-requires c κs = search needs
@@ -24,13 +29,11 @@ same-length c = search needs
 
 returns : tie.Need-returns
 returns c =
-    let z = c .before .before .before .before .before .before .before .before in
-    let ws = z .args .a .now in
-    let h = z .pre in
-    let xs = bufferOf ws (z .args .one .number) in
-    let ys = bufferOf ws (z .args .two .number) in
-    let none : xs ≡ [] = no-entries xs (omega (arith, c .before .before .before .before .before .count .ensures, c .before .before .before .before .if1 .taken)) in
-    (c .before .before .move-steps .ensures .0 ∙ sym (run-second wholeWord (z .args .room) xs ys none), second-alone ws (z .args .out .number) (z .args .out .at) (z .args .room) (z .args .one .number) (z .args .one .at) (z .args .two .number) (z .args .two .at) h _ _ none (c .before .before .move-steps .ensures .1))
+    let m = c .before .before in
+    let t = m .before .before in
+    let z = start (t .before) in
+    let none = no-entries (bufferOf (z .args .a .now) (z .args .one .number)) (omega (arith, t .before .count .ensures, t .if1 .taken)) in
+    (m .move-steps .ensures .0 ∙ sym (run-second _ _ _ _ none), second-alone _ _ _ _ _ _ _ _ (z .pre) _ _ _ none (m .move-steps .ensures .1))
 
 count-requires-2 : tie.Need-count-requires-2
 count-requires-2 c κs = search needs
@@ -43,14 +46,12 @@ same-length-2 c = search needs
 
 returns-2 : tie.Need-returns-2
 returns-2 c =
-    let z = c .before .before .before .before .before .before .before .before .before .before .before in
-    let ws = z .args .a .now in
-    let h = z .pre in
-    let xs = bufferOf ws (z .args .one .number) in
-    let ys = bufferOf ws (z .args .two .number) in
-    let some : 0 < length xs = omega (arith, c .before .before .before .before .before .before .before .before .count .ensures, c .before .before .before .before .before .before .before .if1 .left) in
-    let none : ys ≡ [] = no-entries ys (omega (arith, c .before .before .before .before .before .count2 .ensures, c .before .before .before .before .if2 .taken)) in
-    (c .before .before .move-steps2 .ensures .0 ∙ sym (run-first wholeWord (z .args .room) xs ys some none), first-alone ws (z .args .out .number) (z .args .out .at) (z .args .room) (z .args .one .number) (z .args .one .at) (z .args .two .number) (z .args .two .at) h _ _ none (c .before .before .move-steps2 .ensures .1))
+    let m = c .before .before in
+    let t = m .before .before in
+    let e = t .before .before .before in
+    let z = start (e .before) in
+    let none = no-entries (bufferOf (z .args .a .now) (z .args .two .number)) (omega (arith, t .before .count2 .ensures, t .if2 .taken)) in
+    (m .move-steps2 .ensures .0 ∙ sym (run-first _ _ _ _ (some e) none), first-alone _ _ _ _ _ _ _ _ (z .pre) _ _ _ none (m .move-steps2 .ensures .1))
 
 merge-both-requires : tie.Need-merge-both-requires
 merge-both-requires c κs = search needs
@@ -60,14 +61,9 @@ same-length-3 c = search needs
 
 returns-3 : tie.Need-returns-3
 returns-3 c =
-    let z = c .before .before .before .before .before .before .before .before .before .before .before in
-    let ws = z .args .a .now in
-    let h = z .pre in
-    let xs = bufferOf ws (z .args .one .number) in
-    let ys = bufferOf ws (z .args .two .number) in
-    let some : 0 < length xs = omega (arith, c .before .before .before .before .before .before .before .before .count .ensures, c .before .before .before .before .before .before .before .if1 .left) in
-    let others : 0 < length ys = omega (arith, c .before .before .before .before .before .count2 .ensures, c .before .before .before .before .if2 .left) in
-    (c .before .before .merge-both .ensures .0 ∙ sym (run-both wholeWord (z .args .room) xs ys some others), c .before .before .merge-both .ensures .1)
+    let m = c .before .before in
+    let t = m .before .before in
+    (m .merge-both .ensures .0 ∙ sym (run-both _ _ _ _ (some (t .before .before .before)) (omega (arith, t .before .count2 .ensures, t .if2 .left))), m .merge-both .ensures .1)
 
 pub merge-steps-spec : {M : Type 1} → statement M
 merge-steps-spec =

@@ -9,6 +9,28 @@ use borrow.Author.Needs.{needs}
 use Rattle.mergers.proofs.move_steps.Statement.{statement}
 use Rattle.mergers.proofs.move_steps.Tie as tie
 
+-- back to the start, and what is known once all places are read
+abbrev start : tie.After-count2 → tie.Start
+start c = c .before .before .before .before .before .before .before .before .before .before .before .before
+
+abbrev read : tie.After-count2 → tie.After-least
+read c = c .before .before .before .before .before .before .before .before
+
+known : (c : tie.After-count2)
+    → let z = start c in let ws = z .args .a .now in let one = z .args .one in let out = z .args .out in let m = read c .least .result in
+    (m ≤ z .args .room) × (m ≤ countOf ws (one .number)) × (one .at + c .before .before .before .before .before .before .start-place .result ≡ headOf ws (one .number))
+    × (out .at + c .before .before .before .start-place2 .result + c .count2 .result ≡ headOf ws (out .number) + countOf ws (out .number))
+known c =
+    let z = start c in
+    let ws = z .args .a .now in
+    let l = read c in
+    let count = l .before .count .ensures ∙ buffer-length ws (z .args .one .number) (z .pre .input .of) in (
+      omega (arith, l .least .ensures),
+      omega (arith, l .least .ensures),
+      omega (arith, c .before .before .before .before .before .before .start-place .ensures, z .pre .input .begins),
+      omega (arith, c .before .before .before .start-place2 .ensures, c .count2 .ensures, buffer-length ws (z .args .out .number) (z .pre .output .of), z .pre .output .begins),
+    )
+
 count-requires : tie.Need-count-requires
 count-requires c κs = search needs
 
@@ -31,70 +53,38 @@ count-requires-2 : tie.Need-count-requires-2
 count-requires-2 c κs = search needs
 
 add-to-2 : tie.Need-add-to-2
-add-to-2 c =
-    let z = c .before .before .before .before .before .before .before .before .before .before .before .before in
-    let h = z .pre in
-    omega (arith, buffer-length (z .args .a .now) (z .args .out .number) (h .output .of), c .count2 .ensures, c .before .before .before .start-place2 .ensures, h .output .begins, h .free, h .output .of .slots)
+add-to-2 c = let h = start c .pre in omega (arith, known c .3, h .free, h .output .of .slots)
 
 move-run-requires : tie.Need-move-run-requires
-move-run-requires c κs =
-    let z = c .before .before .before .before .before .before .before .before .before .before .before .before .before in
-    let ws = z .args .a .now in
-    let h = z .pre in
-    let m = c .before .before .before .before .before .before .before .before .before .least .result in
-    let count : c .before .before .before .before .before .before .before .before .before .before .count .result ≡ countOf ws (z .args .one .number) = c .before .before .before .before .before .before .before .before .before .before .count .ensures ∙ buffer-length ws (z .args .one .number) (h .input .of) in
-    let small : m ≤ z .args .room = omega (arith, c .before .before .before .before .before .before .before .before .before .least .ensures) in
-    let less : m ≤ countOf ws (z .args .one .number) = omega (arith, c .before .before .before .before .before .before .before .before .before .least .ensures) in
-    let from : z .args .one .at + c .before .before .before .before .before .before .before .start-place .result ≡ headOf ws (z .args .one .number) = omega (arith, c .before .before .before .before .before .before .before .start-place .ensures, h .input .begins) in
-    let to : z .args .out .at + c .before .before .before .before .start-place2 .result + c .before .count2 .result ≡ headOf ws (z .args .out .number) + countOf ws (z .args .out .number) =
-    omega (arith, c .before .before .before .before .start-place2 .ensures, c .before .count2 .ensures, buffer-length ws (z .args .out .number) (h .output .of), h .output .begins) in
-    moving-run ws (z .args .out .number) (z .args .out .at) (z .args .room) (z .args .one .number) (z .args .one .at) h m small less _ _ from to
+move-run-requires c κs = let k = known (c .before) in moving-run _ _ _ _ _ _ (start (c .before) .pre) _ (k .0) (k .1) _ _ (k .2) (k .3)
 
 grow-requires : tie.Need-grow-requires
 grow-requires c κs =
-    let z = c .before .before .before .before .before .before .before .before .before .before .before .before .before .before .before .before .before in
-    let ws = z .args .a .now in
-    let h = z .pre in
-    let m = c .before .before .before .before .before .before .before .before .before .before .before .before .before .least .result in
-    let count : c .before .before .before .before .before .before .before .before .before .before .before .before .before .before .count .result ≡ countOf ws (z .args .one .number) = c .before .before .before .before .before .before .before .before .before .before .before .before .before .before .count .ensures ∙ buffer-length ws (z .args .one .number) (h .input .of) in
-    let small : m ≤ z .args .room = omega (arith, c .before .before .before .before .before .before .before .before .before .before .before .before .before .least .ensures) in
-    let less : m ≤ countOf ws (z .args .one .number) = omega (arith, c .before .before .before .before .before .before .before .before .before .before .before .before .before .least .ensures) in
-    let from : z .args .one .at + c .before .before .before .before .before .before .before .before .before .before .before .start-place .result ≡ headOf ws (z .args .one .number) = omega (arith, c .before .before .before .before .before .before .before .before .before .before .before .start-place .ensures, h .input .begins) in
-    let to : z .args .out .at + c .before .before .before .before .before .before .before .before .start-place2 .result + c .before .before .before .before .before .count2 .result ≡ headOf ws (z .args .out .number) + countOf ws (z .args .out .number) =
-    omega (arith, c .before .before .before .before .before .before .before .before .start-place2 .ensures, c .before .before .before .before .before .count2 .ensures, buffer-length ws (z .args .out .number) (h .output .of), h .output .begins) in
-    move-growing ws (z .args .out .number) (z .args .out .at) (z .args .room) (z .args .one .number) (z .args .one .at) h m small less _ _ from to _ (c .before .before .before .move-run .ensures)
+    let m = c .before .before .before in
+    let x = m .before .before in
+    let k = known x in
+    move-growing _ _ _ _ _ _ (start x .pre) _ (k .0) (k .1) _ _ (k .2) (k .3) _ (m .move-run .ensures)
 
 drop-front-requires : tie.Need-drop-front-requires
 drop-front-requires c κs =
-    let z = c .before .before .before .before .before .before .before .before .before .before .before .before .before .before .before .before .before .before .before .before .before in
-    let ws = z .args .a .now in
-    let h = z .pre in
-    let m = c .before .before .before .before .before .before .before .before .before .before .before .before .before .before .before .before .before .least .result in
-    let count : c .before .before .before .before .before .before .before .before .before .before .before .before .before .before .before .before .before .before .count .result ≡ countOf ws (z .args .one .number) = c .before .before .before .before .before .before .before .before .before .before .before .before .before .before .before .before .before .before .count .ensures ∙ buffer-length ws (z .args .one .number) (h .input .of) in
-    let small : m ≤ z .args .room = omega (arith, c .before .before .before .before .before .before .before .before .before .before .before .before .before .before .before .before .before .least .ensures) in
-    let less : m ≤ countOf ws (z .args .one .number) = omega (arith, c .before .before .before .before .before .before .before .before .before .before .before .before .before .before .before .before .before .least .ensures) in
-    let from : z .args .one .at + c .before .before .before .before .before .before .before .before .before .before .before .before .before .before .before .start-place .result ≡ headOf ws (z .args .one .number) = omega (arith, c .before .before .before .before .before .before .before .before .before .before .before .before .before .before .before .start-place .ensures, h .input .begins) in
-    let to : z .args .out .at + c .before .before .before .before .before .before .before .before .before .before .before .before .start-place2 .result + c .before .before .before .before .before .before .before .before .before .count2 .result ≡ headOf ws (z .args .out .number) + countOf ws (z .args .out .number) =
-    omega (arith, c .before .before .before .before .before .before .before .before .before .before .before .before .start-place2 .ensures, c .before .before .before .before .before .before .before .before .before .count2 .ensures, buffer-length ws (z .args .out .number) (h .output .of), h .output .begins) in
-    move-dropping ws (z .args .out .number) (z .args .out .at) (z .args .room) (z .args .one .number) (z .args .one .at) h m small less _ _ from to _ (c .before .before .before .before .before .before .before .move-run .ensures) _ (c .before .before .before .grow .ensures .0) (c .before .before .before .grow .ensures .1)
+    let g = c .before .before .before in
+    let m = g .before .before .before .before in
+    let x = m .before .before in
+    let k = known x in
+    move-dropping _ _ _ _ _ _ (start x .pre) _ (k .0) (k .1) _ _ (k .2) (k .3) _ (m .move-run .ensures) _ (g .grow .ensures .0) (g .grow .ensures .1)
 
 same-length : tie.Need-same-length
 same-length c = search needs
 
 returns : tie.Need-returns
 returns c =
-    let z = c .before .before .before .before .before .before .before .before .before .before .before .before .before .before .before .before .before .before .before .before .before .before .before .before in
-    let ws = z .args .a .now in
-    let h = z .pre in
-    let m = c .before .before .before .before .before .before .before .before .before .before .before .before .before .before .before .before .before .before .before .before .least .result in
-    let count : c .before .before .before .before .before .before .before .before .before .before .before .before .before .before .before .before .before .before .before .before .before .count .result ≡ countOf ws (z .args .one .number) = c .before .before .before .before .before .before .before .before .before .before .before .before .before .before .before .before .before .before .before .before .before .count .ensures ∙ buffer-length ws (z .args .one .number) (h .input .of) in
-    let small : m ≤ z .args .room = omega (arith, c .before .before .before .before .before .before .before .before .before .before .before .before .before .before .before .before .before .before .before .before .least .ensures) in
-    let less : m ≤ countOf ws (z .args .one .number) = omega (arith, c .before .before .before .before .before .before .before .before .before .before .before .before .before .before .before .before .before .before .before .before .least .ensures) in
-    let from : z .args .one .at + c .before .before .before .before .before .before .before .before .before .before .before .before .before .before .before .before .before .before .start-place .result ≡ headOf ws (z .args .one .number) = omega (arith, c .before .before .before .before .before .before .before .before .before .before .before .before .before .before .before .before .before .before .start-place .ensures, h .input .begins) in
-    let to : z .args .out .at + c .before .before .before .before .before .before .before .before .before .before .before .before .before .before .before .start-place2 .result + c .before .before .before .before .before .before .before .before .before .before .before .before .count2 .result ≡ headOf ws (z .args .out .number) + countOf ws (z .args .out .number) =
-    omega (arith, c .before .before .before .before .before .before .before .before .before .before .before .before .before .before .before .start-place2 .ensures, c .before .before .before .before .before .before .before .before .before .before .before .before .count2 .ensures, buffer-length ws (z .args .out .number) (h .output .of), h .output .begins) in (
-      c .before .before .before .before .before .before .before .before .before .before .before .before .before .before .before .before .before .before .before .before .least .ensures ∙ ap (min (z .args .room)) (c .before .before .before .before .before .before .before .before .before .before .before .before .before .before .before .before .before .before .before .before .before .count .ensures),
-      move-dropped ws (z .args .out .number) (z .args .out .at) (z .args .room) (z .args .one .number) (z .args .one .at) h m small less _ _ from to _ (c .before .before .before .before .before .before .before .before .before .before .move-run .ensures) _ (c .before .before .before .before .before .before .grow .ensures .0) (c .before .before .before .before .before .before .grow .ensures .1) _ (c .before .before .drop-front .ensures .0) (c .before .before .drop-front .ensures .1),
+    let d = c .before .before in
+    let g = d .before .before .before .before in
+    let m = g .before .before .before .before in
+    let x = m .before .before in
+    let k = known x in (
+      read x .least .ensures ∙ ap (min (start x .args .room)) (read x .before .count .ensures),
+      move-dropped _ _ _ _ _ _ (start x .pre) _ (k .0) (k .1) _ _ (k .2) (k .3) _ (m .move-run .ensures) _ (g .grow .ensures .0) (g .grow .ensures .1) _ (d .drop-front .ensures .0) (d .drop-front .ensures .1),
     )
 
 pub move-steps-spec : {M : Type 1} → statement M

@@ -2,7 +2,6 @@
 use mathlib.Core.Path.{sym, _∙_}
 use native.Mathlib.Omega.{arith}
 use borrow.Author.Tests.{le-leb, lt-leb}
-use Rattle.rules.specs.Entries.{wholeWord}
 use Rattle.buffers.specs.Format.{bufferOf}
 use Rattle.mergers.proofs.TurnLaws.{run-one}
 use borrow.Author.Needs.{needs}
@@ -28,7 +27,7 @@ returns-2 : tie.Need-returns-2
 returns-2 c =
     let z = c .before .before .before .before .before .before in
     rw (lt-leb _ _ (c .before .before .before .before .if1 .left))
-    (c .before .before .move-steps .ensures .0 ∙ sym (run-one wholeWord (z .args .room) (bufferOf (z .args .a .now) (z .args .one .number))), c .before .before .move-steps .ensures .1)
+    (c .before .before .move-steps .ensures .0 ∙ sym (run-one _ (z .args .room) (bufferOf (z .args .a .now) (z .args .one .number))), c .before .before .move-steps .ensures .1)
 
 pub turn-steps-spec : {M : Type 1} → statement M
 turn-steps-spec =
