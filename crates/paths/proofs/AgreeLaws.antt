@@ -6,7 +6,7 @@ use Rattle.buffers.specs.Format.{buffersOf}
 use Rattle.paths.specs.Refills.{Refilled}
 use Rattle.paths.specs.Laying.{LaidOut}
 
-pub refilled-agree : (ws ws₁ ws₂ ns cs : List ℕ) (n : ℕ) (xs ys : List ℕ) → Refilled ws ws₁ ns cs n xs ys → Refilled ws ws₂ ns cs n xs ys → buffersOf ws₁ ≡ buffersOf ws₂
+pub refilled-agree : {key : ℕ → ℕ} (ws ws₁ ws₂ ns cs : List ℕ) (n : ℕ) (xs ys : List ℕ) → Refilled key ws ws₁ ns cs n xs ys → Refilled key ws ws₂ ns cs n xs ys → buffersOf ws₁ ≡ buffersOf ws₂
 refilled-agree ws ws₁ ws₂ ns cs n xs ys one two = one .state ∙ sym (two .state)
 
 pub laid-out-agree : (ws ws₁ ws₂ : List ℕ) (links : ℕ) (run : List ℕ) → LaidOut ws ws₁ links run → LaidOut ws ws₂ links run → buffersOf ws₁ ≡ buffersOf ws₂

@@ -1,18 +1,19 @@
 -- Where a buffer lies, by its number; the counts on a path, and the run along it.
 use mathlib.Core.Path.{_≡_, refl, sym, ap, _∙_}
 use mathlib.Core.List.{List, [], _∷_, _++_, map, map-append}
-use Prim.Native.Nat.{ℕ, zero, suc, _+_, _-_, _*_, _≤_, _<_}
+use Prim.Native.Nat.{ℕ, zero, suc, _+_, _-_, _≤_, _<_}
 use native.Mathlib.Omega.{arith}
 use native.Mathlib.Numerals.{add-one}
 use lib.ListN.{length, take, drop, getD, set, length-set, length-append, drop-of-length-le}
 use lib.Seq.{take-suc, take-suc-set, drop-cons, getD-take, length-take-le}
-use Rattle.rules.specs.Links.{k, first, start, offset, words, bufferCount, LinkNumber, InLink}
+use Rattle.rules.specs.Links.{first, start, offset, bufferCount, mostLinks, allBuffers, bookWords, pathRoom, LinkNumber, InLink}
 use Rattle.rules.specs.Sweep.{counts, runAlong}
+use Rattle.rules.proofs.Sizes.{first-next}
 use Rattle.rules.proofs.Table.{in-link}
 use Rattle.buffers.specs.Slots.{base}
 use Rattle.buffers.specs.Format.{countOf, startOf, many, bufferOf, buffersOf}
 use Rattle.buffers.specs.Post.{Has}
-use Rattle.buffers.proofs.SlotLaws.{base-is, in-words, few}
+use Rattle.buffers.proofs.SlotLaws.{base-is, few}
 use Rattle.buffers.proofs.ArrayLaws.{has, buffer-length, buffers-at}
 use Rattle.runs.specs.Promises.{laidAt, stretch}
 use Rattle.runs.proofs.LayingLaws.{length-laid, laid-none, laid-on}
@@ -20,22 +21,14 @@ use Rattle.paths.specs.Along.{Number, LinkOf, OnPath, Noting, Noted, Cop
 
 -- ---- the link of a number
 
-four : LinkNumber 4
-four = record { low = omega arith; high = omega arith }
-
-pub first-next : (i : ℕ) → 1 ≤ i → first (suc i) ≡ first i + 2 * k i
-unfolding first
-first-next zero h = absurd (omega arith)
-first-next (suc i) h = refl
-
 -- the number stands before the next link
 pub record Down (n i : ℕ) : Type 0 where
   pub link : LinkNumber i
   pub high : n < first (suc i)
 
-pub down-first : {n : ℕ} → Number n → Down n 4
-unfolding first
-down-first h = record { link = four; high = h .few }
+pub down-first : {n : ℕ} → Number n → Down n mostLinks
+unfolding allBuffers bufferCount
+down-first h = record { link = record { low = omega arith; high = omega arith }; high = h .few }
 
 pub down-next : (n i : ℕ) → Number n → Down n i → n < first i → Down n (i - 1)
 unfolding first
@@ -48,10 +41,6 @@ down-last {n} {i} d low = record { link = d .link; low = low; high = omega (arit
 
 -- ---- where a buffer lies
 
-pub base-zero : 256 ≡ base 0
-unfolding base
-base-zero = refl
-
 module _ {n i : ℕ} (h : LinkOf n i) (i′ first′ : ℕ) (e₁ : i′ ≡ i) (e₂ : first′ ≡ first i) where
   here : InLink i (n - first i)
   here = in-link (h .link) (omega (arith, h .low, h .high))
@@ -59,14 +48,10 @@ module _ {n i : ℕ} (h : LinkOf n i) (i′ first′ : ℕ) (e₁ : i′ ≡ i) 
   pub link-in : InLink i′ (n - first′)
   link-in = rw (e₁, e₂) here
 
-  pub link-base : (slot : ℕ) → slot ≡ start i′ + offset i′ (n - first′) → 256 + slot ≡ base n
+  pub link-base : (slot : ℕ) → slot ≡ start i′ + offset i′ (n - first′) → bookWords + slot ≡ base n
   link-base slot e =
       let back : first i + (n - first i) ≡ n = omega (arith, h .low) in
       rw (e, e₁, e₂) (sym (base-is here) ∙ ap base back)
-
-pub base-most : (n : ℕ) → n < 61 → base n ≤ 28436
-unfolding words bufferCount first
-base-most n small = omega (arith, in-words four n small)
 
 -- ---- on a path
 
@@ -92,7 +77,7 @@ module _ {ws ns : List ℕ} {n : ℕ} (h : OnPath ws ns n) where
 -- t of them are noted
 pub record Notes (ws ns : List ℕ) (n : ℕ) (cs : List ℕ) (t : ℕ) : Type 0 where
   pub within : t ≤ n
-  pub long : length cs ≡ 16
+  pub long : length cs ≡ pathRoom
   pub are : take t cs ≡ counts (take t ns) (buffersOf ws)
 
 pub notes-first : {ws ns : List ℕ} {n : ℕ} {cs : List ℕ} → Noting ws ns n cs → Notes ws ns n cs 0

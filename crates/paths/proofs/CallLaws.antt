@@ -6,7 +6,6 @@ use native.Mathlib.Omega.{arith}
 use lib.Dec.{eqb, eqb→eq, leb, leb→le}
 use lib.ListN.{length, take, drop, getD}
 use lib.Seq.{getD-take, drop-at, length-take-le}
-use Rattle.rules.specs.Entries.{wholeWord}
 use Rattle.rules.specs.Tests.{every}
 use Rattle.rules.specs.Links.{k, s, first, sum, numberOfS, bufferCount, LinkNumber}
 use Rattle.rules.specs.Merge.{join}
@@ -113,5 +112,5 @@ module _ {i : ℕ} (h : LinkNumber i) (j : ℕ) (low : 1 ≤ j) (high : j ≤ k 
         }
 
       -- the rules' refilling
-      pub refilled-state : {ws ws′ xs ys : List ℕ} → Refilled ws ws′ ns cs r xs ys → buffersOf ws′ ≡ refillPath (path i j) (counts (path i j) (buffersOf ws₀)) (join wholeWord xs ys) (buffersOf ws)
+      pub refilled-state : {key : ℕ → ℕ} {ws ws′ xs ys : List ℕ} → Refilled key ws ws′ ns cs r xs ys → buffersOf ws′ ≡ refillPath (path i j) (counts (path i j) (buffersOf ws₀)) (join key xs ys) (buffersOf ws)
       refilled-state {ws} {ws′} {xs} {ys} z = z .state ∙ rw (p .is, noted-are)

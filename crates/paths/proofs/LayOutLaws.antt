@@ -11,7 +11,8 @@ use lib.Seq.{take-all, take-suc-set, append-snoc, drop-drop}
 use Rattle.rules.specs.Tests.{every}
 use Rattle.rules.specs.Links.{k, s, first, numberOfS, bufferCount, LinkNumber}
 use Rattle.rules.specs.Sweep.{parts, laidOut}
-use Rattle.rules.proofs.Table.{every-at, each-link, first-most}
+use Rattle.rules.proofs.Sizes.{first-next}
+use Rattle.rules.proofs.Table.{every-at, each-link, first-most, in-book}
 use Rattle.buffers.specs.Slots.{base, capacityOf, capacities}
 use Rattle.buffers.specs.Format.{many, buffersOf}
 use Rattle.buffers.specs.Post.{Inside, Has, Now, Word, Kept, Laying}
@@ -19,7 +20,6 @@ use Rattle.buffers.proofs.ArrayLaws.{has, buffers-length, only-kept, kept-none,
 use Rattle.runs.specs.Promises.{laidAt}
 use Rattle.paths.specs.Laying.{Lays, Emptying, Empty, PartEnd, LayingOut, LaidOut}
 use Rattle.paths.proofs.SlotsLaws.{laid-laying, laid-now}
-use Rattle.paths.proofs.AlongLaws.{first-next}
 use Rattle.paths.proofs.RefillLaws.{words-more}
 
 -- ---- one buffer
@@ -153,7 +153,7 @@ module _ {ws₀ : List ℕ} {links : ℕ} (h : LayingOut ws₀ links) where
   all-many = ap bufferCount (h .of) ∙ all-buffers (h .link)
 
   pub out-empties : Emptying ws₀ (first links + k links)
-  out-empties = record { array = h .array; inside = omega (arith, all-many); few = omega (arith, first-most (h .link)) }
+  out-empties = record { array = h .array; inside = omega (arith, all-many); few = omega (arith, first-most (h .link), in-book) }
 
   -- the same holds of the array where they are empty, and what is laid out then is laid out from the start
   pub out-again : (ws : List ℕ) → Empty ws₀ ws (first links + k links) → LayingOut ws links

@@ -8,7 +8,6 @@ use native.Mathlib.Decide.{decLt, ℕ-discrete}
 use native.Mathlib.Numerals.{add-one}
 use lib.ListN.{length, take, drop, getD, set, length-take, length-drop, drop-of-length-le}
 use lib.Seq.{take-at, drop-at, drop-cons, drop-drop, getD-take, length-take-le}
-use Rattle.rules.specs.Entries.{wholeWord}
 use Rattle.rules.specs.Links.{sum, bufferCount}
 use Rattle.rules.specs.Merge.{join}
 use Rattle.rules.specs.Sweep.{refillPath}
@@ -26,13 +25,13 @@ use Rattle.paths.proofs.SlotsLaws.{part-now, part-laid, laid-laying, la
 
 -- ---- one buffer
 
-module _ (ws : List ℕ) (n m : ℕ) (xs ys : List ℕ) (h : Filling ws n m xs ys) (at : ℕ) (begins : at ≡ base n) (part : List ℕ) (r : ℕ)
-    (p : Parts wholeWord xs ys (take (at + m - at) (drop at ws)) part r) where
+module _ {key : ℕ → ℕ} (ws : List ℕ) (n m : ℕ) (xs ys : List ℕ) (h : Filling ws n m xs ys) (at : ℕ) (begins : at ≡ base n) (part : List ℕ) (r : ℕ)
+    (p : Parts key xs ys (take (at + m - at) (drop at ws)) part r) where
   room-is : length (take (at + m - at) (drop at ws)) ≡ m
   room-is = simp (length-take, length-drop) (omega (arith, h .room, h .of .slots))
 
   part-long : length part ≡ m
-  part-long = ap length (p .laid) ∙ length-out wholeWord (length (take (at + m - at) (drop at ws))) xs ys (omega (arith, room-is, h .enough)) ∙ room-is
+  part-long = ap length (p .laid) ∙ length-out key (length (take (at + m - at) (drop at ws))) xs ys (omega (arith, room-is, h .enough)) ∙ room-is
 
   after-is : take at ws ++ (part ++ drop (at + m - at) (drop at ws)) ≡ laidAt ws (base n) part
   after-is =
@@ -42,14 +41,14 @@ module _ (ws : List ℕ) (n m : ℕ) (xs ys : List ℕ) (h : Filling ws n m xs y
   pub fill-laying : Laying (take at ws ++ (part ++ drop (at + m - at) (drop at ws))) n m
   fill-laying = rw (after-is, ← part-long) (laid-laying ws n part (h .of) (omega (arith, part-long, h .room)))
 
-  splits : join wholeWord xs ys ≡ part ++ join wholeWord (drop r xs) (drop (m - r) ys)
-  splits = parts-join wholeWord p ∙ rw room-is
+  splits : join key xs ys ≡ part ++ join key (drop r xs) (drop (m - r) ys)
+  splits = parts-join key p ∙ rw room-is
 
   pub fill-did : (ws′ : List ℕ) → Now (take at ws ++ (part ++ drop (at + m - at) (drop at ws))) ws′ n (take m (drop (base n) (take at ws ++ (part ++ drop (at + m - at) (drop at ws))))) → Word ws′ n 0 0
-      → Filled ws ws′ n m xs ys r
+      → Filled key ws ws′ n m xs ys r
   fill-did ws′ z w =
-      let rests = join wholeWord (drop r xs) (drop (m - r) ys) in
-      let first : take m (join wholeWord xs ys) ≡ part = ap (take m) splits ∙ take-at part rests m part-long in
+      let rests = join key (drop r xs) (drop (m - r) ys) in
+      let first : take m (join key xs ys) ≡ part = ap (take m) splits ∙ take-at part rests m part-long in
       record {
         holds = rw first (laid-now ws n part (h .of) (omega (arith, part-long, h .room)) ws′ (rw (after-is, ← part-long) at z));
         word = w;
@@ -61,32 +60,32 @@ module _ (ws : List ℕ) (n m : ℕ) (xs ys : List ℕ) (h : Filling ws n m xs y
 
 -- ---- two runs joined into a stretch
 
-pub join-long : (xs ys : List ℕ) → length (join wholeWord xs ys) ≡ length xs + length ys
+pub join-long : (key : ℕ → ℕ) (xs ys : List ℕ) → length (join key xs ys) ≡ length xs + length ys
 unfolding join
-join-long xs ys = length-out wholeWord (length xs + length ys) xs ys (omega arith)
+join-long key xs ys = length-out key (length xs + length ys) xs ys (omega arith)
 
-pub join-room : (xs ys : List ℕ) → untilEnd wholeWord xs ys ≤ length xs + length ys
-join-room xs ys = until-most wholeWord (length xs + length ys) xs ys
+pub join-room : (key : ℕ → ℕ) (xs ys : List ℕ) → untilEnd key xs ys ≤ length xs + length ys
+join-room key xs ys = until-most key (length xs + length ys) xs ys
 
 -- ---- the last buffer
 
-module _ (ws : List ℕ) (n : ℕ) (xs ys : List ℕ) (h : Ending ws n xs ys) (at : ℕ) (begins : at ≡ base n) (part : List ℕ)
-    (e : part ≡ laidAt (take (at + (length xs + length ys) - at) (drop at ws)) 0 (join wholeWord xs ys)) where
+module _ (key : ℕ → ℕ) (ws : List ℕ) (n : ℕ) (xs ys : List ℕ) (h : Ending ws n xs ys) (at : ℕ) (begins : at ≡ base n) (part : List ℕ)
+    (e : part ≡ laidAt (take (at + (length xs + length ys) - at) (drop at ws)) 0 (join key xs ys)) where
   abbrev size : ℕ
   size = at + (length xs + length ys) - at
 
-  last-is : take at ws ++ (part ++ drop size (drop at ws)) ≡ laidAt ws (base n) (join wholeWord xs ys)
+  last-is : take at ws ++ (part ++ drop size (drop at ws)) ≡ laidAt ws (base n) (join key xs ys)
   last-is =
-      rw e (part-laid ws at size (join wholeWord xs ys) (omega (arith, h .room, h .of .slots)) (omega (arith, join-long xs ys))
-      ∙ ap (λ p. laidAt ws p (join wholeWord xs ys)) begins)
+      rw e (part-laid ws at size (join key xs ys) (omega (arith, h .room, h .of .slots)) (omega (arith, join-long key xs ys))
+      ∙ ap (λ p. laidAt ws p (join key xs ys)) begins)
 
   pub last-laying : Laying (take at ws ++ (part ++ drop size (drop at ws))) n (length xs + length ys)
-  last-laying = rw (last-is, ← join-long xs ys) (laid-laying ws n (join wholeWord xs ys) (h .of) (omega (arith, join-long xs ys, h .room)))
+  last-laying = rw (last-is, ← join-long key xs ys) (laid-laying ws n (join key xs ys) (h .of) (omega (arith, join-long key xs ys, h .room)))
 
   pub last-did : (ws′ : List ℕ) → Now (take at ws ++ (part ++ drop size (drop at ws))) ws′ n (take (length xs + length ys) (drop (base n) (take at ws ++ (part ++ drop size (drop at ws))))) → Word ws′ n 0 0
-      → Ended ws ws′ n xs ys
+      → Ended key ws ws′ n xs ys
   last-did ws′ z w = record {
-    holds = laid-now ws n (join wholeWord xs ys) (h .of) (omega (arith, join-long xs ys, h .room)) ws′ (rw (last-is, ← join-long xs ys) at z);
+    holds = laid-now ws n (join key xs ys) (h .of) (omega (arith, join-long key xs ys, h .room)) ws′ (rw (last-is, ← join-long key xs ys) at z);
     word = w;
   }
 
@@ -121,18 +120,18 @@ refill-end ns cs run bs t h =
     rw (drop-cons ns t 0 (omega arith), drop-of-length-le ns past)
 
 -- t buffers are refilled: the rest gives the same answer
-pub record Refills (ws₀ ws ns cs : List ℕ) (n : ℕ) (xs ys : List ℕ) (x y t : ℕ) : Type 0 where
+pub record Refills (key : ℕ → ℕ) (ws₀ ws ns cs : List ℕ) (n : ℕ) (xs ys : List ℕ) (x y t : ℕ) : Type 0 where
   pub within : t + 1 ≤ n
   pub of-first : x ≤ length xs
   pub of-second : y ≤ length ys
   pub gone : x + y ≡ sum (take t cs)
   pub array : Inside ws
   pub kept : Kept ws₀ ws
-  pub state : refillPath (drop t (take n ns)) (drop t (take n cs)) (join wholeWord (drop x xs) (drop y ys)) (buffersOf ws) ≡ refillPath (take n ns) (take n cs) (join wholeWord xs ys) (buffersOf ws₀)
+  pub state : refillPath (drop t (take n ns)) (drop t (take n cs)) (join key (drop x xs) (drop y ys)) (buffersOf ws) ≡ refillPath (take n ns) (take n cs) (join key xs ys) (buffersOf ws₀)
   pub words : (u : ℕ) → u < t → Word ws (getD ns u 0) 0 0
   pub others : (m : ℕ) → m < many ws₀ → ((u : ℕ) → u < n → m ≢ getD ns u 0) → wordOf ws m ≡ wordOf ws₀ m
 
-pub refills-first : {ws ns cs : List ℕ} {n : ℕ} {xs ys : List ℕ} → Refilling ws ns cs n xs ys → Refills ws ws ns cs n xs ys 0 0 0
+pub refills-first : {key : ℕ → ℕ} {ws ns cs : List ℕ} {n : ℕ} {xs ys : List ℕ} → Refilling ws ns cs n xs ys → Refills key ws ws ns cs n xs ys 0 0 0
 unfolding sum
 refills-first {ws} h = record {
   within = h .some;
@@ -156,7 +155,7 @@ words-more ws ws′ n m h only w less old = go (ℕ-discrete m n)
         let same = only-word ws ws′ n h only m less differ in
         record { mark = ap markIn same ∙ old .mark; start = ap startIn same ∙ old .start }
 
-module _ {ws₀ ws ns cs : List ℕ} {n : ℕ} {xs ys : List ℕ} {x y t : ℕ} (h : Refilling ws₀ ns cs n xs ys) (z : Refills ws₀ ws ns cs n xs ys x y t) where
+module _ {key : ℕ → ℕ} {ws₀ ws ns cs : List ℕ} {n : ℕ} {xs ys : List ℕ} {x y t : ℕ} (h : Refilling ws₀ ns cs n xs ys) (z : Refills key ws₀ ws ns cs n xs ys x y t) where
   same-many : many ws ≡ many ws₀
   same-many = ap bufferCount (kept-links (z .kept))
 
@@ -182,18 +181,18 @@ module _ {ws₀ ws ns cs : List ℕ} {n : ℕ} {xs ys : List ℕ} {x y t : ℕ} 
     pub refills-asks : Filling ws (getD ns t 0) (getD cs t 0) (drop x xs) (drop y ys)
     refills-asks = record { of = here t (omega arith); room = h .fits t more; enough = omega (arith, now-gone, left-first, left-second, z .of-first, z .of-second) }
 
-    pub refills-next : (ws′ : List ℕ) (r : ℕ) → Filled ws ws′ (getD ns t 0) (getD cs t 0) (drop x xs) (drop y ys) r
-        → Refills ws₀ ws′ ns cs n xs ys (x + r) (y + (getD cs t 0 - r)) (t + 1)
+    pub refills-next : (ws′ : List ℕ) (r : ℕ) → Filled key ws ws′ (getD ns t 0) (getD cs t 0) (drop x xs) (drop y ys) r
+        → Refills key ws₀ ws′ ns cs n xs ys (x + r) (y + (getD cs t 0 - r)) (t + 1)
     refills-next ws′ r f =
         let k = getD ns t 0 in
         let m = getD cs t 0 in
-        let run = join wholeWord (drop x xs) (drop y ys) in
+        let run = join key (drop x xs) (drop y ys) in
         let of = here t (omega arith) in
         let e₁ : getD (take n ns) t 0 ≡ getD ns t 0 = getD-take n ns t 0 (omega arith) in
         let e₂ : getD (take n cs) t 0 ≡ getD cs t 0 = getD-take n cs t 0 (omega arith) in
         let step : refillPath (drop t (take n ns)) (drop t (take n cs)) run (buffersOf ws) ≡ refillPath (drop (t + 1) (take n ns)) (drop (t + 1) (take n cs)) (drop m run) (set (buffersOf ws) k (take m run)) =
         refill-step (take n ns) (take n cs) run (buffersOf ws) t (omega (arith, long-ns)) (omega (arith, long-cs)) ∙ rw (e₁, e₂) in
-        let rests : drop m run ≡ join wholeWord (drop (x + r) xs) (drop (y + (m - r)) ys) = f .rest ∙ rw (drop-drop r x xs, drop-drop (m - r) y ys) in
+        let rests : drop m run ≡ join key (drop (x + r) xs) (drop (y + (m - r)) ys) = f .rest ∙ rw (drop-drop r x xs, drop-drop (m - r) y ys) in
         record {
           within = omega arith;
           of-first = omega (arith, f .of-first, left-first, z .of-first);
@@ -220,10 +219,10 @@ module _ {ws₀ ws ns cs : List ℕ} {n : ℕ} {xs ys : List ℕ} {x y t : ℕ} 
         let room : length xs + length ys ≤ sum (take t cs) + capacityOf (getD ns t 0) = rw e at (h .room) in
         record { of = here t (omega (arith, is-last)); room = omega (arith, left-first, left-second, z .gone, z .of-first, z .of-second) }
 
-    pub refills-last : (ws′ : List ℕ) → Ended ws ws′ (getD ns t 0) (drop x xs) (drop y ys) → Refilled ws₀ ws′ ns cs n xs ys
+    pub refills-last : (ws′ : List ℕ) → Ended key ws ws′ (getD ns t 0) (drop x xs) (drop y ys) → Refilled key ws₀ ws′ ns cs n xs ys
     refills-last ws′ f =
         let k = getD ns t 0 in
-        let run = join wholeWord (drop x xs) (drop y ys) in
+        let run = join key (drop x xs) (drop y ys) in
         let of = here t (omega (arith, is-last)) in
         let e : getD (take n ns) t 0 ≡ getD ns t 0 = getD-take n ns t 0 (omega (arith, is-last)) in
         let end : refillPath (drop t (take n ns)) (drop t (take n cs)) run (buffersOf ws) ≡ set (buffersOf ws) k run =

@@ -8,12 +8,12 @@ use native.Mathlib.Decide.{decLt}
 use native.Mathlib.Nat.{zero-add}
 use lib.ListN.{length, take, drop, set, length-take, length-drop, take-append-drop}
 use lib.Seq.{drop-at, length-take-le, take-append-seam, drop-append-le, drop-drop, set-set}
-use Rattle.buffers.specs.Slots.{base, capacityOf, capacities, slotOf}
+use Rattle.rules.specs.Links.{bookWords}
+use Rattle.buffers.specs.Slots.{base, capacityOf, capacities}
 use Rattle.buffers.specs.Format.{wordOf, countOf, startOf, many, bufferOf, buffersOf}
 use Rattle.buffers.specs.Post.{Inside, Has, Only, Now, Laying}
-use Rattle.rules.specs.Entries.{wholeWord}
 use Rattle.rules.specs.Insert.{placed}
-use Rattle.buffers.proofs.SlotLaws.{some}
+use Rattle.buffers.proofs.SlotLaws.{base-zero, some}
 use Rattle.buffers.proofs.ArrayLaws.{has, buffer-length, only-links, only-inside, only-now}
 use Rattle.runs.specs.Promises.{laidAt, stretch}
 use Rattle.runs.proofs.LayingLaws.{length-laid, laid-outside, stretch-take, stretch-drop}
@@ -88,10 +88,6 @@ module _ (ws : List ℕ) (n : ℕ) (es : List ℕ) (h : Has ws n) (room : length
 
 -- ---- the insertion buffer
 
-pub base-insertion : base 0 ≡ 256
-unfolding base slotOf
-base-insertion = refl
-
 pub room-insertion : capacityOf 0 ≡ 8
 unfolding capacityOf capacities
 room-insertion = refl
@@ -99,36 +95,36 @@ room-insertion = refl
 pub placing : (ws : List ℕ) → Inside ws → countOf ws 0 ≤ 7 → Placing ws
 placing ws array few =
     let h = has ws 0 array (omega (arith, some (array .link))) in
-    record { of = h; few = few; inside = omega (arith, h .fits, room-insertion); long = omega (arith, h .slots, base-insertion, room-insertion) }
+    record { of = h; few = few; inside = omega (arith, h .fits, room-insertion); long = omega (arith, h .slots, base-zero, room-insertion) }
 
 -- its entries, as its slots alone hold them
-pub insertion-is : (ws : List ℕ) → Placing ws → (start count : ℕ) → start ≡ startOf ws 0 → count ≡ countOf ws 0 → stretch start (start + count) (take 8 (drop 256 ws)) ≡ bufferOf ws 0
+pub insertion-is : (ws : List ℕ) → Placing ws → (start count : ℕ) → start ≡ startOf ws 0 → count ≡ countOf ws 0 → stretch start (start + count) (take 8 (drop bookWords ws)) ≡ bufferOf ws 0
 unfolding bufferOf
 insertion-is ws h start count es ec =
     let many : start + count - start ≡ count = omega arith in
-    let all : stretch 256 264 ws ≡ take 8 (drop 256 ws) = refl in
-    let last : 256 + start + count - (256 + start) ≡ count = omega arith in
-    rw (many, ← all, stretch-drop ws 256 264 start, stretch-take ws (256 + start) 264 count (omega (arith, h .inside)), last, base-insertion, ← es, ← ec)
+    let all : stretch bookWords (bookWords + 8) ws ≡ take 8 (drop bookWords ws) = refl in
+    let last : bookWords + start + count - (bookWords + start) ≡ count = omega arith in
+    rw (many, ← all, stretch-drop ws bookWords (bookWords + 8) start, stretch-take ws (bookWords + start) (bookWords + 8) count (omega (arith, h .inside)), last, base-zero, ← es, ← ec)
 
 module _ (ws : List ℕ) (h : Placing ws) (start count entry : ℕ) (es : start ≡ startOf ws 0) (ec : count ≡ length (bufferOf ws 0)) where
   pub counted : count ≡ countOf ws 0
   counted = ec ∙ buffer-length ws 0 (h .of)
 
-  pub place-holds : Holds (take 8 (drop 256 ws)) start count
+  pub place-holds : Holds (take 8 (drop bookWords ws)) start count
   place-holds = record { inside = simp (length-take, length-drop) (omega (arith, h .inside, h .long, counted)); free = simp (length-take, length-drop) (omega (arith, h .few, h .long, counted)) }
 
-  module _ (slots : List ℕ) (e : slots ≡ laidAt (take 8 (drop 256 ws)) 0 (placed wholeWord entry (stretch start (start + count) (take 8 (drop 256 ws))))) where
-    long : length (placed wholeWord entry (bufferOf ws 0)) ≡ count + 1
-    long = omega (arith, placed-long wholeWord entry (bufferOf ws 0))
+  module _ (key : ℕ → ℕ) (slots : List ℕ) (e : slots ≡ laidAt (take 8 (drop bookWords ws)) 0 (placed key entry (stretch start (start + count) (take 8 (drop bookWords ws))))) where
+    long : length (placed key entry (bufferOf ws 0)) ≡ count + 1
+    long = omega (arith, placed-long key entry (bufferOf ws 0))
 
-    room : length (placed wholeWord entry (bufferOf ws 0)) ≤ capacityOf 0
+    room : length (placed key entry (bufferOf ws 0)) ≤ capacityOf 0
     room = omega (arith, long, counted, h .few, room-insertion)
 
-    whole : take 256 ws ++ (slots ++ drop 8 (drop 256 ws)) ≡ laidAt ws (base 0) (placed wholeWord entry (bufferOf ws 0))
-    whole = rw (e, insertion-is ws h start count es counted, base-insertion) (part-laid ws 256 8 (placed wholeWord entry (bufferOf ws 0)) (h .long) (omega (arith, room, room-insertion)))
+    whole : take bookWords ws ++ (slots ++ drop 8 (drop bookWords ws)) ≡ laidAt ws (base 0) (placed key entry (bufferOf ws 0))
+    whole = rw (e, insertion-is ws h start count es counted, base-zero) (part-laid ws bookWords 8 (placed key entry (bufferOf ws 0)) (h .long) (omega (arith, room, room-insertion)))
 
-    pub place-laying : Laying (take 256 ws ++ (slots ++ drop 8 (drop 256 ws))) 0 (count + 1)
-    place-laying = rw (whole, ← long) (laid-laying ws 0 (placed wholeWord entry (bufferOf ws 0)) (h .of) room)
+    pub place-laying : Laying (take bookWords ws ++ (slots ++ drop 8 (drop bookWords ws))) 0 (count + 1)
+    place-laying = rw (whole, ← long) (laid-laying ws 0 (placed key entry (bufferOf ws 0)) (h .of) room)
 
-    pub place-now : (ws′ : List ℕ) → Now (take 256 ws ++ (slots ++ drop 8 (drop 256 ws))) ws′ 0 (take (count + 1) (drop (base 0) (take 256 ws ++ (slots ++ drop 8 (drop 256 ws))))) → Now ws ws′ 0 (placed wholeWord entry (bufferOf ws 0))
-    place-now ws′ z = laid-now ws 0 (placed wholeWord entry (bufferOf ws 0)) (h .of) room ws′ (rw (whole, ← long) at z)
+    pub place-now : (ws′ : List ℕ) → Now (take bookWords ws ++ (slots ++ drop 8 (drop bookWords ws))) ws′ 0 (take (count + 1) (drop (base 0) (take bookWords ws ++ (slots ++ drop 8 (drop bookWords ws))))) → Now ws ws′ 0 (placed key entry (bufferOf ws 0))
+    place-now ws′ z = laid-now ws 0 (placed key entry (bufferOf ws 0)) (h .of) room ws′ (rw (whole, ← long) at z)

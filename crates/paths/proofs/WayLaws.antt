@@ -11,7 +11,7 @@ use lib.Dec.{T, eqb, eqb→eq, leb, leb→le}
 use lib.ListN.{length, take, getD, set, length-set}
 use lib.Seq.{take-suc, take-suc-set, take-all, take-append-le}
 use Rattle.rules.specs.Tests.{every}
-use Rattle.rules.specs.Links.{k, first, LinkNumber}
+use Rattle.rules.specs.Links.{k, first, mostLinks, pathRoom, bookWords, LinkNumber}
 use Rattle.rules.specs.Sweep.{outputs, pathInLink, path}
 use Rattle.rules.proofs.Table.{every-at, each-link}
 use Rattle.paths.specs.Way.{Before, Ends, OutputsAre, PathIs}
@@ -31,7 +31,7 @@ outputs-more i (suc n) = let e : i + suc n ≡ suc i + n = omega arith in rw e (
 -- n of them are written
 pub record Outputs (i : ℕ) (ns : List ℕ) (n : ℕ) : Type 0 where
   pub within : n + 1 ≤ i
-  pub long : length ns ≡ 16
+  pub long : length ns ≡ pathRoom
   pub begins : take n ns ≡ outputs 1 n
 
 pub outputs-first : (i : ℕ) (ns : List ℕ) → Before i ns → Outputs i ns 0
@@ -53,7 +53,7 @@ outputs-last {i} {ns} {n} o all = let e : i - 1 ≡ n = omega (arith, o .within)
 -- ---- in the link
 
 -- every S that there is: one computed test each
-module _ (test : ℕ → ℕ → Bool) (t : T (every (λ i. every (test i) 1 (k i)) 1 4)) where
+module _ (test : ℕ → ℕ → Bool) (t : T (every (λ i. every (test i) 1 (k i)) 1 mostLinks)) where
   pub each-s : {i : ℕ} → LinkNumber i → (j : ℕ) → 1 ≤ j → j ≤ k i → T (test i j)
   each-s {i} h j low high = every-at (test i) 1 (k i) (each-link (λ i. every (test i) 1 (k i)) t h) j low (omega arith)
 
@@ -86,18 +86,18 @@ module _ {i : ℕ} (h : LinkNumber i) where
         (every-at (λ m. eqb (first i + (k i + (j - 1)) / (2 * k i / 2 ^ m)) (getD (path i j) (i - 1 + m) 0)) 0 (i + 2)
         (each-s (λ i j. every (λ m. eqb (first i + (k i + (j - 1)) / (2 * k i / 2 ^ m)) (getD (path i j) (i - 1 + m) 0)) 0 (i + 2)) tt h j low high) m (omega arith) (omega arith))
 
-    path-few : (m : ℕ) → m < i + 2 → first i + (k i + (j - 1)) / (2 * k i / 2 ^ m) < 61
+    path-few : (m : ℕ) → m < i + 2 → first i + (k i + (j - 1)) / (2 * k i / 2 ^ m) < bookWords
     unfolding every k first
     path-few m few =
-        leb→le (suc (first i + (k i + (j - 1)) / (2 * k i / 2 ^ m))) 61
-        (every-at (λ m. leb (suc (first i + (k i + (j - 1)) / (2 * k i / 2 ^ m))) 61) 0 (i + 2)
-        (each-s (λ i j. every (λ m. leb (suc (first i + (k i + (j - 1)) / (2 * k i / 2 ^ m))) 61) 0 (i + 2)) tt h j low high) m (omega arith) (omega arith))
+        leb→le (suc (first i + (k i + (j - 1)) / (2 * k i / 2 ^ m))) bookWords
+        (every-at (λ m. leb (suc (first i + (k i + (j - 1)) / (2 * k i / 2 ^ m))) bookWords) 0 (i + 2)
+        (each-s (λ i j. every (λ m. leb (suc (first i + (k i + (j - 1)) / (2 * k i / 2 ^ m))) bookWords) 0 (i + 2)) tt h j low high) m (omega arith) (omega arith))
 
 -- n numbers are written, and the next stands so far above the last
 pub record Walk (i j : ℕ) (ns : List ℕ) (n above : ℕ) : Type 0 where
   pub low : i ≤ n + 1
   pub high : n ≤ 2 * i + 1
-  pub long : length ns ≡ 16
+  pub long : length ns ≡ pathRoom
   pub begins : take n ns ≡ take n (path i j)
   pub halved : above ≡ 2 * k i / 2 ^ (n + 1 - i)
 
@@ -137,7 +137,7 @@ module _ {i j : ℕ} {ns₀ ns : List ℕ} {n above : ℕ} (h : Ends i j ns₀) 
         let place : i - 1 + (n + 1 - i) ≡ n = omega (arith, w .low, link .low) in
         rw (e₁, e₂, w .halved) (path-at link j (h .low) (h .high) (n + 1 - i) less ∙ ap (λ p. getD (path i j) p 0) place)
 
-    pub next-few : first′ + (k′ + (j - 1)) / above < 61
+    pub next-few : first′ + (k′ + (j - 1)) / above < bookWords
     next-few = rw (e₁, e₂, w .halved) (path-few link j (h .low) (h .high) (n + 1 - i) less)
 
     pub walk-next : Walk i j (set ns n (first′ + (k′ + (j - 1)) / above)) (n + 1) (above / 2)

@@ -3,7 +3,7 @@ use mathlib.Core.Path.{_≡_}
 use Prim.Native.Nat.{ℕ, _+_, _*_, _≤_, _<_}
 use mathlib.Core.List.{List}
 use lib.ListN.{length, getD, take, drop}
-use Rattle.rules.specs.Links.{k, first, LinkNumber}
+use Rattle.rules.specs.Links.{k, first, allBuffers, pathRoom, LinkNumber}
 use Rattle.rules.specs.Sweep.{counts, runAlong}
 use Rattle.buffers.specs.Format.{countOf, many, buffersOf}
 use Rattle.buffers.specs.Post.{Inside, Has}
@@ -12,7 +12,7 @@ use Rattle.runs.specs.Promises.{laidAt}
 -- a buffer of a link
 pub record Number (n : ℕ) : Type 0 where
   pub low : 1 ≤ n
-  pub few : n < 61
+  pub few : n < allBuffers
 
 pub record LinkOf (n i : ℕ) : Type 0 where
   pub link : LinkNumber i
@@ -22,16 +22,16 @@ pub record LinkOf (n i : ℕ) : Type 0 where
 -- the first n numbers of ns are buffers of the array
 pub record OnPath (ws ns : List ℕ) (n : ℕ) : Type 0 where
   pub array : Inside ws
-  pub long : length ns ≡ 16
-  pub few : n ≤ 16
+  pub long : length ns ≡ pathRoom
+  pub few : n ≤ pathRoom
   pub each : (t : ℕ) → t < n → getD ns t 0 < many ws
 
 pub record Noting (ws ns : List ℕ) (n : ℕ) (cs : List ℕ) : Type 0 where
   pub path : OnPath ws ns n
-  pub room : length cs ≡ 16
+  pub room : length cs ≡ pathRoom
 
 pub record Noted (ws ns : List ℕ) (n : ℕ) (cs : List ℕ) : Type 0 where
-  pub long : length cs ≡ 16
+  pub long : length cs ≡ pathRoom
   pub are : take n cs ≡ counts (take n ns) (buffersOf ws)
 
 -- a buffer, and room for its entries

@@ -3,7 +3,7 @@ use mathlib.Core.Path.{_≡_}
 use Prim.Native.Nat.{ℕ, _+_, _≤_, _<_}
 use mathlib.Core.List.{List, []}
 use lib.ListN.{length, take, replicate}
-use Rattle.rules.specs.Links.{LinkNumber}
+use Rattle.rules.specs.Links.{bookWords, LinkNumber}
 use Rattle.rules.specs.Sweep.{laidOut}
 use Rattle.buffers.specs.Slots.{capacityOf}
 use Rattle.buffers.specs.Format.{linksIn, many, buffersOf}
@@ -17,7 +17,7 @@ pub record Lays (ws : List ℕ) (n : ℕ) (run : List ℕ) : Type 0 where
 pub record Emptying (ws : List ℕ) (end : ℕ) : Type 0 where
   pub array : Inside ws
   pub inside : end ≤ many ws
-  pub few : end ≤ 61
+  pub few : end ≤ bookWords
 
 -- the buffers before the end-th are empty and have no mark
 pub record Empty (ws ws′ : List ℕ) (end : ℕ) : Type 0 where

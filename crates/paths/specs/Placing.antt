@@ -2,6 +2,7 @@
 use Prim.Native.Nat.{ℕ, _+_, _≤_, _<_}
 use mathlib.Core.List.{List}
 use lib.ListN.{length}
+use Rattle.rules.specs.Links.{bookWords}
 use Rattle.buffers.specs.Format.{startOf, countOf}
 use Rattle.buffers.specs.Post.{Has}
 
@@ -15,4 +16,4 @@ pub record Placing (ws : List ℕ) : Type 0 where
   pub of : Has ws 0
   pub few : countOf ws 0 ≤ 7
   pub inside : startOf ws 0 + countOf ws 0 ≤ 8
-  pub long : 264 ≤ length ws
+  pub long : bookWords + 8 ≤ length ws

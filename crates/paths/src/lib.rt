@@ -2,7 +2,8 @@
 ghost use mathlib.Core.Path.{_≡_};
 ghost use Prim.Native.Nat.{_+_, _≤_, _<_};
 ghost use lib.ListN.{length};
-ghost use Rattle.rules.specs.Entries.{wholeWord};
+ghost use Rattle.rules.specs.Entries.{keyBy};
+ghost use Rattle.rules.specs.Links.{allBuffers};
 ghost use Rattle.rules.specs.Insert.{placed};
 ghost use Rattle.rules.specs.Merge.{join};
 ghost use Rattle.buffers.specs.Format.{bufferOf};
@@ -15,18 +16,19 @@ ghost use Rattle.paths.specs.Placing.{Holds, Placing};
 ghost use Rattle.paths.specs.Refills.{Filling, Filled, Ending, Ended, Refilling, Refilled};
 ghost use Rattle.paths.specs.Way.{Before, Ends, OutputsAre, PathIs};
 use rules::Link;
+use rules::Rule;
 
 // Places the entry before the first larger one of the count entries from start on, and lays them all at the beginning. What is held goes before what is read next.
-fn place_in(slots: &mut [u64], start: usize, count: usize, entry: u64)
+fn place_in(rule: Rule, slots: &mut [u64], start: usize, count: usize, entry: u64)
     requires { ⌜ Holds (now slots) start count ⌝ }
-    ensures { λ _. ⌜ now (slots .exit) ≡ laidAt (now (slots .entry)) 0 (placed wholeWord entry (stretch start (start + count) (now (slots .entry)))) ⌝ }
+    ensures { λ _. ⌜ now (slots .exit) ≡ laidAt (now (slots .entry)) 0 (placed (keyBy rule) entry (stretch start (start + count) (now (slots .entry)))) ⌝ }
 {
     let mut t: usize = 0;
     let mut held = entry;
     let mut ahead = true;
     while t < count {
         let x = slots[start + t];
-        if ahead && runs::goes_first(x, held) {
+        if ahead && runs::goes_first(rule, x, held) {
             slots[t] = x;
         } else {
             slots[t] = held;
@@ -39,20 +41,20 @@ fn place_in(slots: &mut [u64], start: usize, count: usize, entry: u64)
 }
 
 // "place the entry in I before the first larger one": I then begins at its first slot.
-pub fn place_entry(a: &mut [u64], entry: u64)
+pub fn place_entry(rule: Rule, a: &mut [u64], entry: u64)
     requires { ⌜ Placing (now a) ⌝ }
-    ensures { λ _. ⌜ Now (now (a .entry)) (now (a .exit)) 0 (placed wholeWord entry (bufferOf (now (a .entry)) 0)) ⌝ }
+    ensures { λ _. ⌜ Now (now (a .entry)) (now (a .exit)) 0 (placed (keyBy rule) entry (bufferOf (now (a .entry)) 0)) ⌝ }
     ensures { λ _. ⌜ Word (now (a .exit)) 0 0 0 ⌝ }
 {
     let start = buffers::start_place(a, 0);
     let count = buffers::count(a, 0);
     let end = Link::BOOK + Link::INSERTION;
-    place_in(&mut a[Link::BOOK..end], start, count, entry);
+    place_in(rule, &mut a[Link::BOOK..end], start, count, entry);
     buffers::settle(a, 0, count + 1);
 }
 
 // The numbers of A(1), A(2) .. A(i-1), at the beginning of path.
-fn outputs_before(i: usize, path: &mut [usize; 16])
+fn outputs_before(i: usize, path: &mut [usize; Link::PATH])
     requires { ⌜ Before i (now path) ⌝ }
     ensures { λ _. ⌜ OutputsAre i (now (path .exit)) ⌝ }
 {
@@ -64,7 +66,7 @@ fn outputs_before(i: usize, path: &mut [usize; 16])
 }
 
 // The numbers of the path from A(1) to S(i,j), at the beginning of path. Answers how many.
-pub fn path_to(i: usize, j: usize, path: &mut [usize; 16]) -> usize
+pub fn path_to(i: usize, j: usize, path: &mut [usize; Link::PATH]) -> usize
     requires { ⌜ Ends i j (now path) ⌝ }
     ensures { λ r. ⌜ PathIs i j (now (path .exit)) r ⌝ }
 {
@@ -97,7 +99,7 @@ fn link_of(n: usize) -> usize
 
 // The word at which buffer n's slots begin.
 pub fn base_of(n: usize) -> usize
-    requires { ⌜ n < 61 ⌝ }
+    requires { ⌜ n < allBuffers ⌝ }
     ensures { λ r. ⌜ r ≡ base n ⌝ }
 {
     if n == 0 {
@@ -109,7 +111,7 @@ pub fn base_of(n: usize) -> usize
 }
 
 // "Note the counts on it": on the n buffers of the path.
-pub fn note(a: &[u64], path: &[usize; 16], n: usize, counts: &mut [usize; 16])
+pub fn note(a: &[u64], path: &[usize; Link::PATH], n: usize, counts: &mut [usize; Link::PATH])
     requires { ⌜ Noting (now a) (now path) n (now counts) ⌝ }
     ensures { λ _. ⌜ Noted (now (a .entry)) (now (path .entry)) n (now (counts .exit)) ⌝ }
 {
@@ -135,7 +137,7 @@ pub fn copy_out(a: &[u64], n: usize, work: &mut [u64], at: usize) -> usize
 // "the run read along the path", from one place of the path on: copies it into the work area. Answers how many entries it has.
 pub fn gather(
     a: &[u64],
-    path: &[usize; 16],
+    path: &[usize; Link::PATH],
     from: usize,
     n: usize,
     work: &mut [u64],
@@ -154,62 +156,63 @@ pub fn gather(
 }
 
 // Buffer n gets the next m entries of two runs that are joined, in its own slots. Answers how many are the first run's.
-pub fn refill_one(a: &mut [u64], n: usize, m: usize, xs: &[u64], ys: &[u64]) -> usize
+pub fn refill_one(rule: Rule, a: &mut [u64], n: usize, m: usize, xs: &[u64], ys: &[u64]) -> usize
     requires { ⌜ Filling (now a) n m (now xs) (now ys) ⌝ }
-    ensures { λ r. ⌜ Filled (now (a .entry)) (now (a .exit)) n m (now (xs .entry)) (now (ys .entry)) r ⌝ }
+    ensures { λ r. ⌜ Filled (keyBy rule) (now (a .entry)) (now (a .exit)) n m (now (xs .entry)) (now (ys .entry)) r ⌝ }
 {
     let at = base_of(n);
     let end = at + m;
-    let first = runs::part(xs, ys, &mut a[at..end]);
+    let first = runs::part(rule, xs, ys, &mut a[at..end]);
     buffers::settle(a, n, m);
     first
 }
 
 // Joins two runs into a stretch of slots, and lays what the joining hands back behind it.
-fn join_into<'a>(xs: &'a [u64], ys: &'a [u64], stretch: &mut [u64])
+fn join_into<'a>(rule: Rule, xs: &'a [u64], ys: &'a [u64], stretch: &mut [u64])
     requires { ⌜ length (now xs) + length (now ys) ≤ length (now stretch) ⌝ }
-    ensures { λ _. ⌜ now (stretch .exit) ≡ laidAt (now (stretch .entry)) 0 (join wholeWord (now (xs .entry)) (now (ys .entry))) ⌝ }
+    ensures { λ _. ⌜ now (stretch .exit) ≡ laidAt (now (stretch .entry)) 0 (join (keyBy rule) (now (xs .entry)) (now (ys .entry))) ⌝ }
 {
-    let rest = runs::join(xs, ys, stretch);
+    let rest = runs::join(rule, xs, ys, stretch);
     let at = xs.len() + ys.len() - rest.len();
     runs::lay(stretch, at, rest);
 }
 
 // "The rest goes into S": into its own stretch of slots.
-pub fn refill_last<'a>(a: &mut [u64], n: usize, xs: &'a [u64], ys: &'a [u64])
+pub fn refill_last<'a>(rule: Rule, a: &mut [u64], n: usize, xs: &'a [u64], ys: &'a [u64])
     requires { ⌜ Ending (now a) n (now xs) (now ys) ⌝ }
-    ensures { λ _. ⌜ Ended (now (a .entry)) (now (a .exit)) n (now (xs .entry)) (now (ys .entry)) ⌝ }
+    ensures { λ _. ⌜ Ended (keyBy rule) (now (a .entry)) (now (a .exit)) n (now (xs .entry)) (now (ys .entry)) ⌝ }
 {
     let at = base_of(n);
     let all = xs.len() + ys.len();
     let end = at + all;
-    join_into(xs, ys, &mut a[at..end]);
+    join_into(rule, xs, ys, &mut a[at..end]);
     buffers::settle(a, n, all);
 }
 
 // "Refill each path buffer from A(1) downwards to its noted count. The rest goes into S", the last of n: what goes in is xs joined with ys, at equal heads xs's first.
 pub fn refill<'a>(
+    rule: Rule,
     a: &mut [u64],
-    path: &[usize; 16],
-    counts: &[usize; 16],
+    path: &[usize; Link::PATH],
+    counts: &[usize; Link::PATH],
     n: usize,
     xs: &'a [u64],
     ys: &'a [u64],
 )
     requires { ⌜ Refilling (now a) (now path) (now counts) n (now xs) (now ys) ⌝ }
-    ensures { λ _. ⌜ Refilled (now (a .entry)) (now (a .exit)) (now (path .entry)) (now (counts .entry)) n (now (xs .entry)) (now (ys .entry)) ⌝ }
+    ensures { λ _. ⌜ Refilled (keyBy rule) (now (a .entry)) (now (a .exit)) (now (path .entry)) (now (counts .entry)) n (now (xs .entry)) (now (ys .entry)) ⌝ }
 {
     let mut x: usize = 0;
     let mut y: usize = 0;
     let mut t: usize = 0;
     while t + 1 < n {
         let m = counts[t];
-        let first = refill_one(a, path[t], m, &xs[x..], &ys[y..]);
+        let first = refill_one(rule, a, path[t], m, &xs[x..], &ys[y..]);
         x = x + first;
         y = y + (m - first);
         t += 1;
     }
-    refill_last(a, path[t], &xs[x..], &ys[y..]);
+    refill_last(rule, a, path[t], &xs[x..], &ys[y..]);
 }
 
 // Buffer n gets a run, in its own slots.

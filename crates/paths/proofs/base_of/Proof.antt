@@ -3,13 +3,14 @@ use mathlib.Core.Path.{ap, sym, _∙_}
 use native.Mathlib.Omega.{arith}
 use Rattle.rules.specs.Links.{first}
 use Rattle.buffers.specs.Slots.{base}
-use Rattle.paths.proofs.AlongLaws.{base-zero, link-in, link-base, base-most}
+use Rattle.buffers.proofs.SlotLaws.{base-zero, base-small}
+use Rattle.paths.proofs.AlongLaws.{link-in, link-base}
 use borrow.Author.Needs.{needs}
 use Rattle.paths.proofs.base_of.Statement.{statement}
 use Rattle.paths.proofs.base_of.Tie as tie
 
 returns : tie.Need-returns
-returns c = base-zero ∙ ap base (sym (c .if1 .taken))
+returns c = sym base-zero ∙ ap base (sym (c .if1 .taken))
 
 link-of-requires : tie.Need-link-of-requires
 link-of-requires c κs = search needs
@@ -35,7 +36,7 @@ add-result : tie.Need-add-result
 add-result c =
     let d = c .before .before in
     let whole = link-base (d .before .before .link-of .ensures) _ _ (c .before .at2 .ensures) (d .first .ensures ∙ ap first (d .before .at .ensures)) _ (c .slot .ensures) in
-    omega (arith, base-most _ (d .before .before .before .before .pre))
+    omega (arith, base-small _ (d .before .before .before .before .pre))
 
 returns-2 : tie.Need-returns-2
 returns-2 c =

@@ -3,7 +3,7 @@ use mathlib.Core.Path.{ap, _∙_}
 use Prim.Native.Nat.{_+_, _-_, _<_}
 use native.Mathlib.Omega.{arith}
 use Rattle.rules.specs.Links.{k, s, first}
-use Rattle.rules.proofs.Table.{first-most}
+use Rattle.rules.proofs.Table.{first-most, in-book}
 use Rattle.paths.specs.Laying.{LayingOut, LaidOut}
 use Rattle.paths.proofs.LayOutLaws.{Sizes, Lying, out-empties, out-again, out-whole, lying-first, lying-asks, lying-next, lying-last}
 use Rattle.paths.proofs.lay_out.Statement.{statement}
@@ -40,7 +40,7 @@ first-requires : tie.Need-first-requires Inv-loop μ-loop
 first-requires c κs = (omega (arith, c .at3 .ensures, c .before .before .before .before .before .before .before .pre .link .low), omega (arith, c .at3 .ensures, c .before .before .before .before .before .before .before .pre .link .high))
 
 add-first : tie.Need-add-first Inv-loop μ-loop
-add-first c = omega (arith, sized c .first-is, first-most (c .before .before .before .before .before .before .before .before .pre .link))
+add-first c = omega (arith, sized c .first-is, in-book, first-most (c .before .before .before .before .before .before .before .before .pre .link))
 
 empty-before-requires : tie.Need-empty-before-requires Inv-loop μ-loop
 empty-before-requires c κs = rw (sized (c .before) .first-is) (out-empties (c .before .before .before .before .before .before .before .before .before .pre))
@@ -62,7 +62,7 @@ add-lay-run c =
     let s₀ = l .before .before .before .before .before .before .before .before .before .before .before .before .before in
     let z = l .loop .inv in
     let more : l .loop .j < k (s₀ .args .links) = omega (arith, i .loop-test .taken, z .0 .k-is) in
-    omega (arith, z .0 .first-is, first-most (s₀ .pre .link))
+    omega (arith, z .0 .first-is, first-most (s₀ .pre .link), in-book)
 
 mul-lay-run : tie.Need-mul-lay-run Inv-loop μ-loop
 mul-lay-run c = omega arith

@@ -38,7 +38,7 @@ settle-requires : tie.Need-settle-requires
 settle-requires c κs =
     let d = c .before .before .before .before .before in
     let s = d .before .before .before .before .before in
-    place-laying (s .args .a .now) (s .pre) _ _ (s .args .entry) (d .before .before .start-place .ensures) (d .count .ensures) _ (c .before .before .before .place-in .ensures)
+    place-laying (s .args .a .now) (s .pre) _ _ (s .args .entry) (d .before .before .start-place .ensures) (d .count .ensures) _ _ (c .before .before .before .place-in .ensures)
 
 same-length : tie.Need-same-length
 same-length c = search needs
@@ -48,7 +48,7 @@ returns c =
     let e = c .before .before in
     let d = e .before .before .before .before .before .before in
     let s = d .before .before .before .before .before in (
-      place-now (s .args .a .now) (s .pre) _ _ (s .args .entry) (d .before .before .start-place .ensures) (d .count .ensures) _ (e .before .before .before .before .place-in .ensures) _ (e .settle .ensures .0),
+      place-now (s .args .a .now) (s .pre) _ _ (s .args .entry) (d .before .before .start-place .ensures) (d .count .ensures) _ _ (e .before .before .before .before .place-in .ensures) _ (e .settle .ensures .0),
       e .settle .ensures .1,
     )
 

@@ -4,19 +4,19 @@ use mathlib.Core.Logic.{⊎-elim}
 use Prim.Native.Nat.{_-_}
 use native.Mathlib.Omega.{arith}
 use lib.ListN.{length-set}
-use Rattle.rules.specs.Entries.{wholeWord}
+use Rattle.rules.specs.Entries.{keyBy}
 use Rattle.paths.proofs.PlacingLaws.{Turn, turn-first, lays-read, lays-first, lays-held, turn-last}
 use Rattle.paths.proofs.place_in.Statement.{statement}
 use Rattle.paths.proofs.place_in.Tie as tie
 
 abbrev Inv-loop : tie.InvT-loop
-Inv-loop slots₀ start count entry t₀ held₀ ahead₀ slots t held ahead = Turn wholeWord slots₀ slots start count entry t held ahead
+Inv-loop rule slots₀ start count entry t₀ held₀ ahead₀ slots t held ahead = Turn (keyBy rule) slots₀ slots start count entry t held ahead
 
 abbrev μ-loop : tie.MeasureT-loop
-μ-loop slots₀ start count entry t₀ held₀ ahead₀ slots t held ahead = count - t
+μ-loop rule slots₀ start count entry t₀ held₀ ahead₀ slots t held ahead = count - t
 
 loop-holds : tie.Need-loop-holds Inv-loop μ-loop
-loop-holds c = turn-first wholeWord _ _ _ _
+loop-holds c = turn-first _ _ _ _ _
 
 add-x : tie.Need-add-x Inv-loop μ-loop
 add-x c = omega arith
@@ -54,12 +54,12 @@ loop-again c =
     let turn = c .before .before .before .loop .inv in
     let more = c .before .before .loop-test .taken in
     ⊎-elim
-    (λ w. rw (w .3, w .4, w .5) (lays-read wholeWord (s .pre) turn more (w .0 .taken) (sym (w .1 .ensures) ∙ w .2 .taken)))
+    (λ w. rw (w .3, w .4, w .5) (lays-read _ (s .pre) turn more (w .0 .taken) (sym (w .1 .ensures) ∙ w .2 .taken)))
     (λ w.
     rw (w .1, w .2, w .3)
     (⊎-elim
-    (λ v. lays-first wholeWord (s .pre) turn more (v .0 .taken) (sym (v .1 .ensures) ∙ v .2 .left))
-    (λ v. lays-held wholeWord (s .pre) turn more (v .left))
+    (λ v. lays-first _ (s .pre) turn more (v .0 .taken) (sym (v .1 .ensures) ∙ v .2 .left))
+    (λ v. lays-held _ (s .pre) turn more (v .left))
     (w .0 .came)))
     (c .if1 .came)
 
@@ -73,7 +73,7 @@ same-length : tie.Need-same-length Inv-loop μ-loop
 same-length c = simp length-set (c .before .loop .inv .sized)
 
 returns : tie.Need-returns Inv-loop μ-loop
-returns c = turn-last wholeWord (c .before .before .before .pre) (c .before .loop .inv) (c .loop-test .left)
+returns c = turn-last _ (c .before .before .before .pre) (c .before .loop .inv) (c .loop-test .left)
 
 pub place-in-spec : {M : Type 1} → statement M
 place-in-spec =

@@ -2,6 +2,7 @@
 use Prim.Native.Nat.{_+_, _-_}
 use native.Mathlib.Omega.{arith}
 use lib.ListN.{getD}
+use Rattle.rules.specs.Entries.{keyBy}
 use Rattle.paths.specs.Refills.{Refilled}
 use Rattle.runs.proofs.LayingLaws.{to-the-end}
 use Rattle.paths.proofs.RefillLaws.{Refills, refills-first, refills-asks, refills-next, refills-ask-last, refills-last}
@@ -9,14 +10,14 @@ use Rattle.paths.proofs.refill.Statement.{statement}
 use Rattle.paths.proofs.refill.Tie as tie
 
 abbrev Inv-loop : tie.InvT-loop
-Inv-loop a₀ path counts n xs ys x₀ y₀ t₀ a x y t = Refills a₀ a path counts n xs ys x y t
+Inv-loop rule a₀ path counts n xs ys x₀ y₀ t₀ a x y t = Refills (keyBy rule) a₀ a path counts n xs ys x y t
 
 abbrev μ-loop : tie.MeasureT-loop
-μ-loop a₀ path counts n xs ys x₀ y₀ t₀ a x y t = n - t
+μ-loop rule a₀ path counts n xs ys x₀ y₀ t₀ a x y t = n - t
 
 -- one buffer more
 next : (c : tie.After-slice-known2 Inv-loop μ-loop) → let l = c .before .before .before .before .before .before .before .before .before in let s = l .before .before .before .before in let o = c .before .before .refill-one in
-    Refills (s .args .a .now) (o .last .0) (s .args .path .now) (s .args .counts .now) (s .args .n) (s .args .xs .now) (s .args .ys .now) (l .loop .x + o .result) (l .loop .y + (getD (s .args .counts .now) (l .loop .t) 0 - o .result)) (l .loop .t + 1)
+    Refills (keyBy (s .args .rule)) (s .args .a .now) (o .last .1 .0) (s .args .path .now) (s .args .counts .now) (s .args .n) (s .args .xs .now) (s .args .ys .now) (l .loop .x + o .result) (l .loop .y + (getD (s .args .counts .now) (l .loop .t) 0 - o .result)) (l .loop .t + 1)
 next c =
     let i = c .before .before .before .before .before .before .before .before in
     let l = i .before in
@@ -27,7 +28,7 @@ next c =
 
 -- the last
 last : (c : tie.After-slice-known3 Inv-loop μ-loop) → let s = c .before .before .before .before .before .before .before .before .before .before .before .before in
-    Refilled (s .args .a .now) (c .before .before .refill-last .last .0) (s .args .path .now) (s .args .counts .now) (s .args .n) (s .args .xs .now) (s .args .ys .now)
+    Refilled (keyBy (s .args .rule)) (s .args .a .now) (c .before .before .refill-last .last .1 .0) (s .args .path .now) (s .args .counts .now) (s .args .n) (s .args .xs .now) (s .args .ys .now)
 last c =
     let i = c .before .before .before .before .before .before .before in
     let l = i .before in

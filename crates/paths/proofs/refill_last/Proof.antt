@@ -33,7 +33,7 @@ settle-requires c κs =
     let p = c .before .before .before in
     let b = p .before .before in
     let s = b .before .before .before .before in
-    last-laying (s .args .a .now) (s .args .n) (s .args .xs .now) (s .args .ys .now) (s .pre) _ (b .base-of .ensures) _ (p .join-into .ensures)
+    last-laying _ (s .args .a .now) (s .args .n) (s .args .xs .now) (s .args .ys .now) (s .pre) _ (b .base-of .ensures) _ (p .join-into .ensures)
 
 same-length : tie.Need-same-length
 same-length c = search needs
@@ -43,7 +43,7 @@ returns c =
     let p = c .before .before .before .before .before .before in
     let b = p .before .before in
     let s = b .before .before .before .before in
-    last-did (s .args .a .now) (s .args .n) (s .args .xs .now) (s .args .ys .now) (s .pre) _ (b .base-of .ensures) _ (p .join-into .ensures) _ (c .before .before .settle .ensures .0) (c .before .before .settle .ensures .1)
+    last-did _ (s .args .a .now) (s .args .n) (s .args .xs .now) (s .args .ys .now) (s .pre) _ (b .base-of .ensures) _ (p .join-into .ensures) _ (c .before .before .settle .ensures .0) (c .before .before .settle .ensures .1)
 
 pub refill-last-spec : {M : Type 1} → statement M
 refill-last-spec =
