@@ -9,18 +9,12 @@ use native.Mathlib.Numerals.{add-one}
 use lib.Dec.{leb}
 use lib.ListN.{length, getD, take, drop}
 use lib.Seq.{take-nil, slice, slice-empty, slice-cons}
-use Rattle.rules.specs.Entries.{wholeWord}
 use Rattle.rules.specs.Tests.{_and_}
 use Rattle.rules.specs.Order.{ascends, lastKey}
 use Rattle.buffers.specs.Format.{startOf, countOf, headOf, bufferOf}
 use Rattle.buffers.proofs.ArrayLaws.{buffer-length, entry-at}
 use Rattle.mergers.specs.Post.{At}
 use Rattle.order.specs.Walk.{lastEntry}
-
--- No word has a smaller key than 0. The only law that looks at the key.
-pub least-word : wholeWord 0 ≡ 0
-unfolding wholeWord
-least-word = refl
 
 -- ---- entry by entry
 

@@ -1,6 +1,6 @@
 // The order rule: the look that an audit takes at the entries themselves.
 ghost use mathlib.Core.Path.{_≡_};
-ghost use Rattle.rules.specs.Entries.{wholeWord};
+ghost use Rattle.rules.specs.Entries.{keyBy};
 ghost use Rattle.rules.specs.Tree.{treeOf};
 ghost use Rattle.rules.specs.Order.{ascends, ordered, inOrder};
 ghost use Rattle.buffers.specs.Format.{linksIn, bufferOf, buffersOf};
@@ -10,11 +10,12 @@ ghost use Rattle.mergers.specs.Subtree.{subtree};
 ghost use Rattle.order.specs.Walk.{lastEntry, CanWalk};
 use mergers::Place;
 use rules::Link;
+use rules::Rule;
 
 // Whether a buffer ascends from the entry `low` on, equal neighbours allowed.
-pub fn ascends(a: &[u64], place: Place, low: u64) -> bool
+pub fn ascends(rule: Rule, a: &[u64], place: Place, low: u64) -> bool
     requires { ⌜ At (now a) (place .number) (place .at) ⌝ }
-    ensures { λ r. ⌜ r ≡ ascends wholeWord (wholeWord low) (bufferOf (now (a .entry)) (place .number)) ⌝ }
+    ensures { λ r. ⌜ r ≡ ascends (keyBy rule) (keyBy rule low) (bufferOf (now (a .entry)) (place .number)) ⌝ }
 {
     let head = place.at + buffers::start_place(a, place.number);
     let end = head + buffers::count(a, place.number);
@@ -22,7 +23,7 @@ pub fn ascends(a: &[u64], place: Place, low: u64) -> bool
     let mut p = head;
     while p < end {
         let e = a[p];
-        if !runs::goes_first(last, e) {
+        if !runs::goes_first(rule, last, e) {
             return false;
         }
         last = e;
@@ -45,25 +46,26 @@ pub fn last_entry(a: &[u64], place: Place, low: u64) -> u64
 }
 
 // Whether link i's buffer j and all below it keep the order rule; `low` is the last entry nearer the root.
-pub fn ordered(a: &[u64], links: usize, i: usize, j: usize, low: u64) -> bool
+pub fn ordered(rule: Rule, a: &[u64], links: usize, i: usize, j: usize, low: u64) -> bool
     requires { ⌜ CanWalk (now a) links i j ⌝ }
-    ensures { λ r. ⌜ r ≡ ordered wholeWord (subtree links i j) (wholeWord low) (buffersOf (now (a .entry))) ⌝ }
+    ensures { λ r. ⌜ r ≡ ordered (keyBy rule) (subtree links i j) (keyBy rule low) (buffersOf (now (a .entry))) ⌝ }
 {
     if links < i {
         return true;
     }
     let place = mergers::place_of(i, j);
-    if !ascends(a, place, low) {
+    if !ascends(rule, a, place, low) {
         return false;
     }
     if Link::at(i).k() <= j {
         return true;
     }
     let last = last_entry(a, place, low);
-    if !ordered(a, links, i, mergers::first_input(j), last) {
+    if !ordered(rule, a, links, i, mergers::first_input(j), last) {
         return false;
     }
     ordered(
+        rule,
         a,
         links,
         mergers::second_link(i, j),
@@ -72,18 +74,18 @@ pub fn ordered(a: &[u64], links: usize, i: usize, j: usize, low: u64) -> bool
     )
 }
 
-// Whether the entries keep the order rule. No word is below 0, so that I and A(1) ascend from 0 on.
-pub fn in_order(a: &[u64]) -> bool
+// Whether the entries keep the order rule. No key is below that of 0, so that I and A(1) ascend from 0 on.
+pub fn in_order(rule: Rule, a: &[u64]) -> bool
     requires { ⌜ Inside (now a) ⌝ }
-    ensures { λ r. ⌜ r ≡ inOrder wholeWord (treeOf (linksIn (now (a .entry)))) (buffersOf (now (a .entry))) ⌝ }
+    ensures { λ r. ⌜ r ≡ inOrder (keyBy rule) (treeOf (linksIn (now (a .entry)))) (buffersOf (now (a .entry))) ⌝ }
 {
     let insertion = Place {
         number: 0,
         at: Link::BOOK,
     };
-    let outside = ascends(a, insertion, 0);
+    let outside = ascends(rule, a, insertion, 0);
     let links = buffers::counters::links(a) as usize;
-    if !ordered(a, links, 1, 0, 0) {
+    if !ordered(rule, a, links, 1, 0, 0) {
         return false;
     }
     outside

@@ -10,8 +10,7 @@ use lib.Dec.{leb}
 use lib.ListN.{length, getD, drop, set, length-drop}
 use lib.Seq.{set-getD, set-comm, getD-set-same, getD-set-other}
 use Rattle.takes.specs.declared.Source.the-variants.{Neither, First, Insertion}
-use Rattle.rules.specs.Entries.{wholeWord}
-use Rattle.rules.specs.Links.{first, bufferCount}
+use Rattle.rules.specs.Links.{first, bufferCount, bookWords}
 use Rattle.rules.specs.Tree.{Buffers, Tree, entries, put, linksFrom}
 use Rattle.rules.specs.Merge.{Step, stop, move, mergeStep}
 use Rattle.rules.specs.Fill.{Filled}
@@ -30,12 +29,12 @@ use Rattle.takes.proofs.ReadyLaws.{top-first, first-has, insertion-has,
 
 -- ---- the step that the smaller head makes
 
-pub neither-says : (xs ys : List ℕ) → Neither ≡ sourceOf xs ys → mergeStep wholeWord xs ys ≡ stop
+pub neither-says : (key : ℕ → ℕ) (xs ys : List ℕ) → Neither ≡ sourceOf key xs ys → mergeStep key xs ys ≡ stop
 unfolding sourceOf mergeStep
-neither-says [] [] e = refl
-neither-says (x ∷ xs) [] e = let z : _≡_ {A = ℕ} 0 1 = cc in absurd (omega arith)
-neither-says [] (y ∷ ys) e = let z : _≡_ {A = ℕ} 0 1 = cc in absurd (omega arith)
-neither-says (x ∷ xs) (y ∷ ys) e = go (leb (wholeWord x) (wholeWord y)) e
+neither-says key [] [] e = refl
+neither-says key (x ∷ xs) [] e = let z : _≡_ {A = ℕ} 0 1 = cc in absurd (omega arith)
+neither-says key [] (y ∷ ys) e = let z : _≡_ {A = ℕ} 0 1 = cc in absurd (omega arith)
+neither-says key (x ∷ xs) (y ∷ ys) e = go (leb (key x) (key y)) e
   where
     go : (b : Bool) → Neither ≡ elim b [ true ↦ First | false ↦ Insertion ] → elim b [ true ↦ move x xs (y ∷ ys) | false ↦ move y (x ∷ xs) ys ] ≡ stop
     go true e = let z : _≡_ {A = ℕ} 0 1 = cc in absurd (omega arith)
@@ -45,23 +44,23 @@ pub record Leaves (xs : List ℕ) (step : Step) (after : Step) : Type 0 where
   pub some : 0 < length xs
   pub steps : step ≡ after
 
-pub first-says : (xs ys : List ℕ) → First ≡ sourceOf xs ys → Leaves xs (mergeStep wholeWord xs ys) (move (getD xs 0 0) (drop 1 xs) ys)
+pub first-says : (key : ℕ → ℕ) (xs ys : List ℕ) → First ≡ sourceOf key xs ys → Leaves xs (mergeStep key xs ys) (move (getD xs 0 0) (drop 1 xs) ys)
 unfolding sourceOf mergeStep
-first-says [] [] e = let z : _≡_ {A = ℕ} 0 1 = cc in absurd (omega arith)
-first-says (x ∷ xs) [] e = record { some = omega arith; steps = refl }
-first-says [] (y ∷ ys) e = let z : _≡_ {A = ℕ} 0 1 = cc in absurd (omega arith)
-first-says (x ∷ xs) (y ∷ ys) e = record { some = omega arith; steps = go (leb (wholeWord x) (wholeWord y)) e }
+first-says key [] [] e = let z : _≡_ {A = ℕ} 0 1 = cc in absurd (omega arith)
+first-says key (x ∷ xs) [] e = record { some = omega arith; steps = refl }
+first-says key [] (y ∷ ys) e = let z : _≡_ {A = ℕ} 0 1 = cc in absurd (omega arith)
+first-says key (x ∷ xs) (y ∷ ys) e = record { some = omega arith; steps = go (leb (key x) (key y)) e }
   where
     go : (b : Bool) → First ≡ elim b [ true ↦ First | false ↦ Insertion ] → elim b [ true ↦ move x xs (y ∷ ys) | false ↦ move y (x ∷ xs) ys ] ≡ move x xs (y ∷ ys)
     go true e = refl
     go false e = let z : _≡_ {A = ℕ} 0 1 = cc in absurd (omega arith)
 
-pub insertion-says : (xs ys : List ℕ) → Insertion ≡ sourceOf xs ys → Leaves ys (mergeStep wholeWord xs ys) (move (getD ys 0 0) xs (drop 1 ys))
+pub insertion-says : (key : ℕ → ℕ) (xs ys : List ℕ) → Insertion ≡ sourceOf key xs ys → Leaves ys (mergeStep key xs ys) (move (getD ys 0 0) xs (drop 1 ys))
 unfolding sourceOf mergeStep
-insertion-says [] [] e = let z : _≡_ {A = ℕ} 0 1 = cc in absurd (omega arith)
-insertion-says (x ∷ xs) [] e = let z : _≡_ {A = ℕ} 0 1 = cc in absurd (omega arith)
-insertion-says [] (y ∷ ys) e = record { some = omega arith; steps = refl }
-insertion-says (x ∷ xs) (y ∷ ys) e = record { some = omega arith; steps = go (leb (wholeWord x) (wholeWord y)) e }
+insertion-says key [] [] e = let z : _≡_ {A = ℕ} 0 1 = cc in absurd (omega arith)
+insertion-says key (x ∷ xs) [] e = let z : _≡_ {A = ℕ} 0 1 = cc in absurd (omega arith)
+insertion-says key [] (y ∷ ys) e = record { some = omega arith; steps = refl }
+insertion-says key (x ∷ xs) (y ∷ ys) e = record { some = omega arith; steps = go (leb (key x) (key y)) e }
   where
     go : (b : Bool) → Insertion ≡ elim b [ true ↦ First | false ↦ Insertion ] → elim b [ true ↦ move x xs (y ∷ ys) | false ↦ move y (x ∷ xs) ys ] ≡ move y (x ∷ xs) ys
     go true e = let z : _≡_ {A = ℕ} 0 1 = cc in absurd (omega arith)
@@ -69,7 +68,7 @@ insertion-says (x ∷ xs) (y ∷ ys) e = record { some = omega arith; steps = go
 
 -- ---- after A(1) has been made ready
 
-module _ (ws : List ℕ) (last : ℕ) (h : CanTake ws last) (ws₁ : List ℕ) (steps : ℕ) (d : Did ws ws₁ (linksFrom 1 last) (ready wholeWord (linksFrom 1 last) (buffersOf ws)) steps) where
+module _ (key : ℕ → ℕ) (ws : List ℕ) (last : ℕ) (h : CanTake ws last) (ws₁ : List ℕ) (steps : ℕ) (d : Did ws ws₁ (linksFrom 1 last) (ready key (linksFrom 1 last) (buffersOf ws)) steps) where
   abbrev t : Tree
   t = linksFrom 1 last
 
@@ -77,7 +76,7 @@ module _ (ws : List ℕ) (last : ℕ) (h : CanTake ws last) (ws₁ : List ℕ) (
   bs₁ = buffersOf ws₁
 
   abbrev now : Filled
-  now = ready wholeWord t (buffersOf ws)
+  now = ready key t (buffersOf ws)
 
   abbrev xs : List ℕ
   xs = entries t bs₁
@@ -88,7 +87,7 @@ module _ (ws : List ℕ) (last : ℕ) (h : CanTake ws last) (ws₁ : List ℕ) (
   pub can-now : CanTake ws₁ last
   can-now = record { array = d .array; links = rw (kept-links (d .kept)) (h .links); marks = d .marks }
 
-  pub taken-is : (s : Step) → mergeStep wholeWord xs ys ≡ s → takeOne wholeWord t (buffersOf ws) ≡ handOut t s now
+  pub taken-is : (s : Step) → mergeStep key xs ys ≡ s → takeOne key t (buffersOf ws) ≡ handOut t s now
   unfolding takeOne
   taken-is s e = rw (← d .state, e)
 
@@ -97,10 +96,10 @@ module _ (ws : List ℕ) (last : ℕ) (h : CanTake ws last) (ws₁ : List ℕ) (
   word-of-I = d .others 0 (insertion-has ws last h .below) (λ s. let low = links-range 1 last (omega arith) (in-stands 0 t s) .0 in absurd (omega (arith, first-one)))
 
   -- nothing is held there
-  pub took-none : Neither ≡ sourceOf xs ys → Took ws ws₁ last (takeOne wholeWord t (buffersOf ws)) false 0 steps
+  pub took-none : Neither ≡ sourceOf key xs ys → Took ws ws₁ last (takeOne key t (buffersOf ws)) false 0 steps
   unfolding handOut
   took-none e =
-      rw (taken-is stop (neither-says xs ys e))
+      rw (taken-is stop (neither-says key xs ys e))
       record { array = d .array; out = refl; state = d .state; count = d .count; marks = d .marks; kept = d .kept; none = λ e. refl; mark-of-I = ap markIn word-of-I; fewer-in-I = rw word-of-I (omega arith); others = λ n lt differ out. d .others n lt out }
 
   stands-below : (m : ℕ) → Stands m t → m < many ws₁
@@ -132,9 +131,9 @@ module _ (ws : List ℕ) (last : ℕ) (h : CanTake ws last) (ws₁ : List ℕ) (
         only-word ws₁ ws₂ n of (z .only) m (rw (kept-links (d .kept)) lt) (⊎-elim (λ e q. differ (q ∙ e)) (λ s q. out (rw q s)) inside) ∙ d .others m lt out
 
   -- A(1)'s head leaves it
-  module _ (e : First ≡ sourceOf xs ys) where
-    says : Leaves xs (mergeStep wholeWord xs ys) (move (getD xs 0 0) (drop 1 xs) ys)
-    says = first-says xs ys e
+  module _ (e : First ≡ sourceOf key xs ys) where
+    says : Leaves xs (mergeStep key xs ys) (move (getD xs 0 0) (drop 1 xs) ys)
+    says = first-says key xs ys e
 
     low : 1 ≤ last
     low = go (decLt 0 last)
@@ -143,11 +142,11 @@ module _ (ws : List ℕ) (last : ℕ) (h : CanTake ws last) (ws₁ : List ℕ) (
         go (yes some) = some
         go (no none) = absurd (omega (arith, says .some, ap length (first-none ws₁ last can-now (omega arith))))
 
-    pub first-can : Headed ws₁ 1 264
+    pub first-can : Headed ws₁ 1 (bookWords + 8)
     first-can = first-headed ws₁ last can-now (omega (arith, says .some, ap length (first-is ws₁ last can-now low), buffer-length ws₁ 1 (first-has ws₁ last can-now)))
 
     pub took-first : (ws₂ : List ℕ) (entry : ℕ) → entry ≡ getD (bufferOf ws₁ 1) 0 0 → Now ws₁ ws₂ 1 (drop 1 (bufferOf ws₁ 1)) → Word ws₂ 1 (markOf ws₁ 1) (startOf ws₁ 1 + 1)
-        → Took ws ws₂ last (takeOne wholeWord t (buffersOf ws)) true entry steps
+        → Took ws ws₂ last (takeOne key t (buffersOf ws)) true entry steps
     unfolding handOut insertion
     took-first ws₂ entry q z w =
         let of = first-has ws₁ last can-now in
@@ -170,15 +169,15 @@ module _ (ws : List ℕ) (last : ℕ) (h : CanTake ws last) (ws₁ : List ℕ) (
         }
 
   -- I's head leaves it
-  module _ (e : Insertion ≡ sourceOf xs ys) where
-    says-I : Leaves ys (mergeStep wholeWord xs ys) (move (getD ys 0 0) xs (drop 1 ys))
-    says-I = insertion-says xs ys e
+  module _ (e : Insertion ≡ sourceOf key xs ys) where
+    says-I : Leaves ys (mergeStep key xs ys) (move (getD ys 0 0) xs (drop 1 ys))
+    says-I = insertion-says key xs ys e
 
-    pub insertion-can : Headed ws₁ 0 256
+    pub insertion-can : Headed ws₁ 0 bookWords
     insertion-can = insertion-headed ws₁ last can-now (omega (arith, says-I .some, ap length (insertion-is ws₁ last can-now), buffer-length ws₁ 0 (insertion-has ws₁ last can-now)))
 
     pub took-insertion : (ws₂ : List ℕ) (entry : ℕ) → entry ≡ getD (bufferOf ws₁ 0) 0 0 → Now ws₁ ws₂ 0 (drop 1 (bufferOf ws₁ 0)) → Word ws₂ 0 (markOf ws₁ 0) (startOf ws₁ 0 + 1)
-        → Took ws ws₂ last (takeOne wholeWord t (buffersOf ws)) true entry steps
+        → Took ws ws₂ last (takeOne key t (buffersOf ws)) true entry steps
     unfolding handOut
     took-insertion ws₂ entry q z w =
         let of = insertion-has ws₁ last can-now in
@@ -204,36 +203,36 @@ module _ (ws : List ℕ) (last : ℕ) (h : CanTake ws last) (ws₁ : List ℕ) (
 
 -- ---- the head alone
 
-module _ (ws : List ℕ) (last : ℕ) (h : CanTake ws last) where
+module _ (key : ℕ → ℕ) (ws : List ℕ) (last : ℕ) (h : CanTake ws last) where
   abbrev one : List ℕ
   one = entries (linksFrom 1 last) (buffersOf ws)
 
   abbrev two : List ℕ
   two = insertion (buffersOf ws)
 
-  pub head-none : Neither ≡ sourceOf one two → 0 ≡ headIn (mergeStep wholeWord one two)
+  pub head-none : Neither ≡ sourceOf key one two → 0 ≡ headIn (mergeStep key one two)
   unfolding headIn
-  head-none e = rw (neither-says one two e)
+  head-none e = rw (neither-says key one two e)
 
-  module _ (e : First ≡ sourceOf one two) where
+  module _ (e : First ≡ sourceOf key one two) where
     a-link : 1 ≤ last
     a-link = go (decLt 0 last)
       where
         go : Dec (0 < last) → 1 ≤ last
         go (yes some) = some
-        go (no none) = absurd (omega (arith, first-says one two e .some, ap length (first-none ws last h (omega arith))))
+        go (no none) = absurd (omega (arith, first-says key one two e .some, ap length (first-none ws last h (omega arith))))
 
-    pub first-head-can : Headed ws 1 264
-    first-head-can = first-headed ws last h (omega (arith, first-says one two e .some, ap length (first-is ws last h a-link), buffer-length ws 1 (first-has ws last h)))
+    pub first-head-can : Headed ws 1 (bookWords + 8)
+    first-head-can = first-headed ws last h (omega (arith, first-says key one two e .some, ap length (first-is ws last h a-link), buffer-length ws 1 (first-has ws last h)))
 
-    pub first-head : (r : ℕ) → r ≡ getD (bufferOf ws 1) 0 0 → r ≡ headIn (mergeStep wholeWord one two)
+    pub first-head : (r : ℕ) → r ≡ getD (bufferOf ws 1) 0 0 → r ≡ headIn (mergeStep key one two)
     unfolding headIn
-    first-head r q = q ∙ ap (λ l. getD l 0 0) (sym (first-is ws last h a-link)) ∙ ap headIn (sym (first-says one two e .steps))
+    first-head r q = q ∙ ap (λ l. getD l 0 0) (sym (first-is ws last h a-link)) ∙ ap headIn (sym (first-says key one two e .steps))
 
-  module _ (e : Insertion ≡ sourceOf one two) where
-    pub insertion-head-can : Headed ws 0 256
-    insertion-head-can = insertion-headed ws last h (omega (arith, insertion-says one two e .some, ap length (insertion-is ws last h), buffer-length ws 0 (insertion-has ws last h)))
+  module _ (e : Insertion ≡ sourceOf key one two) where
+    pub insertion-head-can : Headed ws 0 bookWords
+    insertion-head-can = insertion-headed ws last h (omega (arith, insertion-says key one two e .some, ap length (insertion-is ws last h), buffer-length ws 0 (insertion-has ws last h)))
 
-    pub insertion-head : (r : ℕ) → r ≡ getD (bufferOf ws 0) 0 0 → r ≡ headIn (mergeStep wholeWord one two)
+    pub insertion-head : (r : ℕ) → r ≡ getD (bufferOf ws 0) 0 0 → r ≡ headIn (mergeStep key one two)
     unfolding headIn
-    insertion-head r q = q ∙ ap (λ l. getD l 0 0) (sym (insertion-is ws last h)) ∙ ap headIn (sym (insertion-says one two e .steps))
+    insertion-head r q = q ∙ ap (λ l. getD l 0 0) (sym (insertion-is ws last h)) ∙ ap headIn (sym (insertion-says key one two e .steps))

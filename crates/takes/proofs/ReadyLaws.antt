@@ -7,7 +7,6 @@ use native.Mathlib.Omega.{arith}
 use borrow.Author.Tests.{leb-true, leb-false}
 use lib.Dec.{leb}
 use lib.ListN.{length, getD}
-use Rattle.rules.specs.Entries.{wholeWord}
 use Rattle.rules.specs.Links.{first, bookWords, LinkNumber}
 use Rattle.rules.specs.Tree.{exhausted, entries, linksFrom}
 use Rattle.rules.specs.Fill.{fill}
@@ -15,9 +14,8 @@ use Rattle.rules.specs.Take.{ready, insertion}
 use Rattle.rules.proofs.Table.{in-link, k-least}
 use Rattle.rules.proofs.Sizes.{first-one}
 use Rattle.buffers.specs.Format.{countOf, many, bufferOf, buffersOf}
-use Rattle.buffers.specs.Slots.{base, slotOf}
 use Rattle.buffers.specs.Post.{Has, Headed}
-use Rattle.buffers.proofs.SlotLaws.{some}
+use Rattle.buffers.proofs.SlotLaws.{base-zero, base-one, some}
 use Rattle.buffers.proofs.ArrayLaws.{has, buffer-length, buffers-at}
 use Rattle.mergers.specs.Subtree.{subtree}
 use Rattle.mergers.specs.Post.{wanted, wantedIn}
@@ -45,14 +43,6 @@ no-link (suc last) h = absurd (omega arith)
 pub first-input : (last : ℕ) → Input (leb 1 last) 1 (linksFrom 1 last)
 first-input last = record { counts = λ e. top-first last (leb-true 1 last e); else-none = λ e. no-link last (leb-false 1 last e) }
 
-base-zero : base 0 ≡ 256
-unfolding base slotOf bookWords
-base-zero = refl
-
-base-one : base 1 ≡ 264
-unfolding base slotOf bookWords
-base-one = refl
-
 module _ (ws : List ℕ) (last : ℕ) (h : CanTake ws last) where
   first-below : 1 < many ws
   first-below = omega (arith, some (h .array .link))
@@ -63,14 +53,14 @@ module _ (ws : List ℕ) (last : ℕ) (h : CanTake ws last) where
   pub insertion-has : Has ws 0
   insertion-has = has ws 0 (h .array) (omega (arith, some (h .array .link)))
 
-  pub ready-alone : wantedIn ws last 1 1 ≡ false → Did ws ws (linksFrom 1 last) (ready wholeWord (linksFrom 1 last) (buffersOf ws)) 0
+  pub ready-alone : (key : ℕ → ℕ) → wantedIn ws last 1 1 ≡ false → Did ws ws (linksFrom 1 last) (ready key (linksFrom 1 last) (buffersOf ws)) 0
   unfolding ready
-  ready-alone w = left-alone ws (h .array) 1 (linksFrom 1 last) (h .marks) (leb 1 last) (first-input last) (λ e. first-below) w
+  ready-alone key w = left-alone key ws (h .array) 1 (linksFrom 1 last) (h .marks) (leb 1 last) (first-input last) (λ e. first-below) w
 
-  pub ready-filled : wantedIn ws last 1 1 ≡ true → (ws′ : List ℕ) (x : ℕ) → Did ws ws′ (subtree last 1 0) (fill wholeWord (subtree last 1 0) (buffersOf ws)) x
-      → Did ws ws′ (linksFrom 1 last) (ready wholeWord (linksFrom 1 last) (buffersOf ws)) x
+  pub ready-filled : (key : ℕ → ℕ) → wantedIn ws last 1 1 ≡ true → (ws′ : List ℕ) (x : ℕ) → Did ws ws′ (subtree last 1 0) (fill key (subtree last 1 0) (buffersOf ws)) x
+      → Did ws ws′ (linksFrom 1 last) (ready key (linksFrom 1 last) (buffersOf ws)) x
   unfolding ready
-  ready-filled w ws′ x did = filled-now ws (h .array) 1 (linksFrom 1 last) (h .marks) (leb 1 last) (first-input last) (λ e. first-below) w ws′ x (rw (tree-is last) at did)
+  ready-filled key w ws′ x did = filled-now key ws (h .array) 1 (linksFrom 1 last) (h .marks) (leb 1 last) (first-input last) (λ e. first-below) w ws′ x (rw (tree-is last) at did)
 
   pub ready-can : wantedIn ws last 1 1 ≡ true → CanFill ws last 1 0
   ready-can w =
@@ -105,39 +95,40 @@ module _ (ws : List ℕ) (last : ℕ) (h : CanTake ws last) where
   pub first-count : 1 ≤ last → length (entries (linksFrom 1 last) (buffersOf ws)) ≡ countOf ws 1
   first-count low = ap length (first-is low) ∙ buffer-length ws 1 first-has
 
-  pub first-headed : 0 < countOf ws 1 → Headed ws 1 264
+  pub first-headed : 0 < countOf ws 1 → Headed ws 1 (bookWords + 8)
   first-headed some = record { of = first-has; begins = sym base-one; some = some }
 
-  pub insertion-headed : 0 < countOf ws 0 → Headed ws 0 256
+  pub insertion-headed : 0 < countOf ws 0 → Headed ws 0 bookWords
   insertion-headed some = record { of = insertion-has; begins = sym base-zero; some = some }
 
 -- which head is smaller, by which of the two buffers have entries
-pub none-of : (xs ys : List ℕ) → length xs ≡ 0 → length ys ≡ 0 → Neither ≡ sourceOf xs ys
-unfolding sourceOf
-none-of [] [] p q = refl
-none-of (x ∷ xs) ys p q = absurd (omega arith)
-none-of [] (y ∷ ys) p q = absurd (omega arith)
+module _ (key : ℕ → ℕ) where
+  pub none-of : (xs ys : List ℕ) → length xs ≡ 0 → length ys ≡ 0 → Neither ≡ sourceOf key xs ys
+  unfolding sourceOf
+  none-of [] [] p q = refl
+  none-of (x ∷ xs) ys p q = absurd (omega arith)
+  none-of [] (y ∷ ys) p q = absurd (omega arith)
 
-pub second-of : (xs ys : List ℕ) → length xs ≡ 0 → 0 < length ys → Insertion ≡ sourceOf xs ys
-unfolding sourceOf
-second-of [] [] p q = absurd (omega arith)
-second-of (x ∷ xs) ys p q = absurd (omega arith)
-second-of [] (y ∷ ys) p q = refl
+  pub second-of : (xs ys : List ℕ) → length xs ≡ 0 → 0 < length ys → Insertion ≡ sourceOf key xs ys
+  unfolding sourceOf
+  second-of [] [] p q = absurd (omega arith)
+  second-of (x ∷ xs) ys p q = absurd (omega arith)
+  second-of [] (y ∷ ys) p q = refl
 
-pub first-of : (xs ys : List ℕ) → 0 < length xs → length ys ≡ 0 → First ≡ sourceOf xs ys
-unfolding sourceOf
-first-of [] ys p q = absurd (omega arith)
-first-of (x ∷ xs) [] p q = refl
-first-of (x ∷ xs) (y ∷ ys) p q = absurd (omega arith)
+  pub first-of : (xs ys : List ℕ) → 0 < length xs → length ys ≡ 0 → First ≡ sourceOf key xs ys
+  unfolding sourceOf
+  first-of [] ys p q = absurd (omega arith)
+  first-of (x ∷ xs) [] p q = refl
+  first-of (x ∷ xs) (y ∷ ys) p q = absurd (omega arith)
 
-pub smaller-first : (xs ys : List ℕ) → 0 < length xs → 0 < length ys → leb (wholeWord (getD xs 0 0)) (wholeWord (getD ys 0 0)) ≡ true → First ≡ sourceOf xs ys
-unfolding sourceOf
-smaller-first [] ys p q e = absurd (omega arith)
-smaller-first (x ∷ xs) [] p q e = absurd (omega arith)
-smaller-first (x ∷ xs) (y ∷ ys) p q e = rw (e, sourceOf)
+  pub smaller-first : (xs ys : List ℕ) → 0 < length xs → 0 < length ys → leb (key (getD xs 0 0)) (key (getD ys 0 0)) ≡ true → First ≡ sourceOf key xs ys
+  unfolding sourceOf
+  smaller-first [] ys p q e = absurd (omega arith)
+  smaller-first (x ∷ xs) [] p q e = absurd (omega arith)
+  smaller-first (x ∷ xs) (y ∷ ys) p q e = rw (e, sourceOf)
 
-pub smaller-second : (xs ys : List ℕ) → 0 < length xs → 0 < length ys → leb (wholeWord (getD xs 0 0)) (wholeWord (getD ys 0 0)) ≡ false → Insertion ≡ sourceOf xs ys
-unfolding sourceOf
-smaller-second [] ys p q e = absurd (omega arith)
-smaller-second (x ∷ xs) [] p q e = absurd (omega arith)
-smaller-second (x ∷ xs) (y ∷ ys) p q e = rw (e, sourceOf)
+  pub smaller-second : (xs ys : List ℕ) → 0 < length xs → 0 < length ys → leb (key (getD xs 0 0)) (key (getD ys 0 0)) ≡ false → Insertion ≡ sourceOf key xs ys
+  unfolding sourceOf
+  smaller-second [] ys p q e = absurd (omega arith)
+  smaller-second (x ∷ xs) [] p q e = absurd (omega arith)
+  smaller-second (x ∷ xs) (y ∷ ys) p q e = rw (e, sourceOf)

@@ -6,7 +6,7 @@ use native.Mathlib.Omega.{arith}
 use native.Mathlib.Nat.{add-suc, suc-add, add-zero}
 use native.Mathlib.Numerals.{add-one}
 use lib.ListN.{length, getD}
-use Rattle.rules.specs.Links.{first, bufferCount}
+use Rattle.rules.specs.Links.{first, bufferCount, bookWords}
 use Rattle.rules.specs.Tree.{Buffers}
 use Rattle.rules.specs.Queue.{heldFrom}
 use Rattle.rules.proofs.Sizes.{first-mono}
@@ -38,7 +38,7 @@ pub record FirstLinks (ws : List ℕ) (links end : ℕ) : Type 0 where
   pub array : Inside ws
   pub is : end ≡ bufferCount links
   pub among : end ≤ many ws
-  pub few : end ≤ 61
+  pub few : end ≤ bookWords
 
 pub first-links : (ws : List ℕ) (links i end : ℕ) → Inside ws → links ≤ linksIn ws → i ≡ links + 1 → end ≡ first i → FirstLinks ws links end
 unfolding bufferCount

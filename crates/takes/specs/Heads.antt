@@ -5,11 +5,9 @@ use mathlib.Core.Bool.{Bool, true, false}
 use mathlib.Core.List.{List, [], _∷_}
 use Prim.Native.Nat.{ℕ, _≤_, _<_}
 use lib.Dec.{leb}
-use lib.ListN.{length}
 use Rattle.takes.specs.declared.Source.{Source}
 use Rattle.takes.specs.declared.Source.the-variants.{Neither, First, Insertion}
-use Rattle.rules.specs.Entries.{wholeWord}
-use Rattle.rules.specs.Tree.{Buffers, Tree, linksFrom}
+use Rattle.rules.specs.Tree.{linksFrom}
 use Rattle.rules.specs.Merge.{Step, stop, move}
 use Rattle.rules.specs.Take.{Taken}
 use Rattle.buffers.specs.Format.{linksIn, wordOf, countOf, markOf, many, buffersOf}
@@ -17,11 +15,11 @@ use Rattle.buffers.specs.Post.{Inside, Kept}
 use Rattle.mergers.specs.Fills.{MarksRight, StandsIn}
 
 -- "the smaller of the heads of A(1) and I; at equality A(1)'s"
-unfoldable pub sourceOf : List ℕ → List ℕ → Source
-sourceOf [] [] = Neither
-sourceOf (x ∷ xs) [] = First
-sourceOf [] (y ∷ ys) = Insertion
-sourceOf (x ∷ xs) (y ∷ ys) = elim (leb (wholeWord x) (wholeWord y)) [ true ↦ First | false ↦ Insertion ]
+unfoldable pub sourceOf : (ℕ → ℕ) → List ℕ → List ℕ → Source
+sourceOf key [] [] = Neither
+sourceOf key (x ∷ xs) [] = First
+sourceOf key [] (y ∷ ys) = Insertion
+sourceOf key (x ∷ xs) (y ∷ ys) = elim (leb (key x) (key y)) [ true ↦ First | false ↦ Insertion ]
 
 -- the entry that a step moves; 0 if there is none
 unfoldable pub headIn : Step → ℕ

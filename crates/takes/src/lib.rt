@@ -1,7 +1,7 @@
 // Takes over I and the first links of a lent array: one take, its head alone, all of them.
 ghost use mathlib.Core.Path.{_≡_};
 ghost use Prim.Native.Nat.{_+_, _≤_};
-ghost use Rattle.rules.specs.Entries.{wholeWord};
+ghost use Rattle.rules.specs.Entries.{keyBy};
 ghost use Rattle.rules.specs.Tree.{linksFrom, entries};
 ghost use Rattle.rules.specs.Merge.{mergeStep};
 ghost use Rattle.rules.specs.Take.{ready, takeOne, takeAll, insertion};
@@ -16,6 +16,7 @@ ghost use Rattle.buffers.specs.Post.{Inside};
 ghost use Rattle.takes.specs.Heads.{CanTake, Took, sourceOf, headIn};
 ghost use Rattle.takes.specs.Emptying.{CanEmpty, TookAll};
 use rules::Link;
+use rules::Rule;
 
 // What a call reports where no merge step is made.
 const NO_STEP: u64 = 0;
@@ -28,20 +29,20 @@ pub enum Source {
 }
 
 // Fills A(1) if it is empty; links behind `last` count as exhausted. Answers the merge steps.
-pub fn make_ready(a: &mut [u64], last: usize) -> u64
+pub fn make_ready(rule: Rule, a: &mut [u64], last: usize) -> u64
     requires { ⌜ CanTake (now a) last ⌝ }
-    ensures { λ r. ⌜ Did (now (a .entry)) (now (a .exit)) (linksFrom 1 last) (ready wholeWord (linksFrom 1 last) (buffersOf (now (a .entry)))) r ⌝ }
+    ensures { λ r. ⌜ Did (now (a .entry)) (now (a .exit)) (linksFrom 1 last) (ready (keyBy rule) (linksFrom 1 last) (buffersOf (now (a .entry)))) r ⌝ }
 {
     if mergers::wants_in(a, last, 1, 1) {
-        return mergers::fill(a, last, 1, 0);
+        return mergers::fill(rule, a, last, 1, 0);
     }
     NO_STEP
 }
 
 // Which of A(1) and I has the smaller head, at equality A(1); A(1) counts only if a link does.
-fn smaller_head(a: &[u64], last: usize) -> Source
+fn smaller_head(rule: Rule, a: &[u64], last: usize) -> Source
     requires { ⌜ CanTake (now a) last ⌝ }
-    ensures { λ r. ⌜ r ≡ sourceOf (entries (linksFrom 1 last) (buffersOf (now (a .entry)))) (insertion (buffersOf (now (a .entry)))) ⌝ }
+    ensures { λ r. ⌜ r ≡ sourceOf (keyBy rule) (entries (linksFrom 1 last) (buffersOf (now (a .entry)))) (insertion (buffersOf (now (a .entry)))) ⌝ }
 {
     let y = buffers::count(a, 0);
     if last == 0 {
@@ -63,7 +64,7 @@ fn smaller_head(a: &[u64], last: usize) -> Source
         return Source::First;
     }
     let e = buffers::head(a, 1, Link::BOOK + Link::INSERTION);
-    if runs::goes_first(e, buffers::head(a, 0, Link::BOOK)) {
+    if runs::goes_first(rule, e, buffers::head(a, 0, Link::BOOK)) {
         return Source::First;
     }
     Source::Insertion
@@ -89,12 +90,12 @@ pub struct Taken {
 }
 
 // One take over I and the first links; links behind `last` count as exhausted.
-pub fn take_one(a: &mut [u64], last: usize) -> Taken
+pub fn take_one(rule: Rule, a: &mut [u64], last: usize) -> Taken
     requires { ⌜ CanTake (now a) last ⌝ }
-    ensures { λ r. ⌜ Took (now (a .entry)) (now (a .exit)) last (takeOne wholeWord (linksFrom 1 last) (buffersOf (now (a .entry)))) (r .found) (r .entry) (r .steps) ⌝ }
+    ensures { λ r. ⌜ Took (now (a .entry)) (now (a .exit)) last (takeOne (keyBy rule) (linksFrom 1 last) (buffersOf (now (a .entry)))) (r .found) (r .entry) (r .steps) ⌝ }
 {
-    let steps = make_ready(a, last);
-    match smaller_head(a, last) {
+    let steps = make_ready(rule, a, last);
+    match smaller_head(rule, a, last) {
         Source::Neither => Taken {
             found: false,
             entry: 0,
@@ -120,11 +121,11 @@ pub fn take_one(a: &mut [u64], last: usize) -> Taken
 }
 
 // The head that a take hands out where A(1) is ready; 0 if there is none.
-pub fn head_now(a: &[u64], last: usize) -> u64
+pub fn head_now(rule: Rule, a: &[u64], last: usize) -> u64
     requires { ⌜ CanTake (now a) last ⌝ }
-    ensures { λ r. ⌜ r ≡ headIn (mergeStep wholeWord (entries (linksFrom 1 last) (buffersOf (now (a .entry)))) (insertion (buffersOf (now (a .entry))))) ⌝ }
+    ensures { λ r. ⌜ r ≡ headIn (mergeStep (keyBy rule) (entries (linksFrom 1 last) (buffersOf (now (a .entry)))) (insertion (buffersOf (now (a .entry))))) ⌝ }
 {
-    match smaller_head(a, last) {
+    match smaller_head(rule, a, last) {
         Source::Neither => 0,
         Source::First => buffers::head(a, 1, Link::BOOK + Link::INSERTION),
         Source::Insertion => buffers::head(a, 0, Link::BOOK),
@@ -153,15 +154,15 @@ pub struct Emptied {
 }
 
 // Takes all that I and the first links hold out into the work area; links behind `last` count as exhausted.
-pub fn take_all(a: &mut [u64], last: usize, work: &mut [u64]) -> Emptied
+pub fn take_all(rule: Rule, a: &mut [u64], last: usize, work: &mut [u64]) -> Emptied
     requires { ⌜ CanEmpty (now a) last (now work) ⌝ }
-    ensures { λ r. ⌜ TookAll (now (a .entry)) (now (a .exit)) last (takeAll wholeWord (linksFrom 1 last) (buffersOf (now (a .entry)))) (now (work .entry)) (now (work .exit)) (r .count) (r .steps) ⌝ }
+    ensures { λ r. ⌜ TookAll (now (a .entry)) (now (a .exit)) last (takeAll (keyBy rule) (linksFrom 1 last) (buffersOf (now (a .entry)))) (now (work .entry)) (now (work .exit)) (r .count) (r .steps) ⌝ }
 {
     let count = held_now(a, last) as usize;
     let mut steps: u64 = 0;
     let mut n: usize = 0;
     while n < count {
-        let t = take_one(a, last);
+        let t = take_one(rule, a, last);
         work[n] = t.entry;
         steps = steps + t.steps;
         n += 1;

@@ -5,7 +5,8 @@ use native.Mathlib.Omega.{arith}
 use borrow.Author.Tests.{not-true, not-false}
 use borrow.Fn.Kinds.{In}
 use borrow.Fn.PlainCycle.{Measures, is, falls, and}
-use Rattle.rules.specs.Links.{k, first}
+use Rattle.rules.specs.Entries.{keyBy}
+use Rattle.rules.specs.Links.{k, first, allBuffers}
 use Rattle.order.proofs.WalkLaws.{behind-ordered, Reached, walk-in, walk-at, decided-alone, broken-here, Onward, first-can, first-falls, second-can, second-falls, broken-in-first, left-to-second}
 use Rattle.order.proofs.ordered.Reads as ordered
 use Rattle.order.proofs.ordered.Kinds as ordered-kinds
@@ -22,7 +23,7 @@ use Rattle.order.proofs.+ordered.{statement}
 use Rattle.order.proofs.+ordered.Tie.{close}
 
 abbrev μ-ordered : Measures 1 ordered-kinds.ps ℕ
-μ-ordered κs a = 61 - (first (a .1 .1 .0) + a .1 .1 .1 .0)
+μ-ordered κs a = allBuffers - (first (a .1 .1 .1 .0) + a .1 .1 .1 .1 .0)
 
 abbrev ordered-at : ℕ → In 1 ordered-kinds.ps
 ordered-at t = and 1 ordered-kinds.ps (is 1 ordered-kinds.ps μ-ordered t) ordered.Pre
@@ -60,7 +61,7 @@ reached-at t c = record { can = c .before .before .before .pre .1; counts = omeg
 
 -- past the test of k: a merger feeds the buffer, which ascends
 onward-at : (t : ℕ) (c : ordered-lts.Else3 (claims t) (ordered-at t) ordered.Post)
-    → Onward (c .before .before .before .before .before .before .before .before .args .a .now) (c .before .before .before .before .before .before .before .before .args .links) (c .before .before .before .before .before .before .before .before .args .i) (c .before .before .before .before .before .before .before .before .args .j) (c .before .before .before .before .before .place-of .result .number) (c .before .before .before .before .before .place-of .result .at) (c .before .before .before .before .before .before .before .before .args .low)
+    → Onward (keyBy (c .before .before .before .before .before .before .before .before .args .rule)) (c .before .before .before .before .before .before .before .before .args .a .now) (c .before .before .before .before .before .before .before .before .args .links) (c .before .before .before .before .before .before .before .before .args .i) (c .before .before .before .before .before .before .before .before .args .j) (c .before .before .before .before .before .place-of .result .number) (c .before .before .before .before .before .place-of .result .at) (c .before .before .before .before .before .before .before .before .args .low)
 onward-at t c =
     let kis : c .before .k .result ≡ k (c .before .before .before .before .before .before .before .before .args .i) = c .before .k .ensures ∙ ap k (c .before .before .at .ensures) in
     record {
@@ -70,7 +71,7 @@ onward-at t c =
     }
 
 ordered-returns : (t : ℕ) → ordered-lts.Need-returns (claims t) (ordered-at t) ordered.Post
-ordered-returns t c = behind-ordered (c .before .before .pre .1) (omega arith) _
+ordered-returns t c = behind-ordered _ (c .before .before .pre .1) (omega arith) _
 
 ordered-place-of-requires : (t : ℕ) → ordered-lts.Need-place-of-requires (claims t) (ordered-at t) ordered.Post
 ordered-place-of-requires t c κs = c .before .before .pre .1 .spot
@@ -79,7 +80,7 @@ ordered-ascends-requires : (t : ℕ) → ordered-lts.Need-ascends-requires (clai
 ordered-ascends-requires t c κs = walk-at (reached-at t c)
 
 ordered-returns-2 : (t : ℕ) → ordered-lts.Need-returns-2 (claims t) (ordered-at t) ordered.Post
-ordered-returns-2 t c = broken-here (reached-at t (c .before .before)) _ (sym (c .before .ascends .ensures) ∙ not-true (c .before .ascends .result) (c .if2 .taken))
+ordered-returns-2 t c = broken-here (reached-at t (c .before .before)) _ _ (sym (c .before .ascends .ensures) ∙ not-true (c .before .ascends .result) (c .if2 .taken))
 
 ordered-at-requires : (t : ℕ) → ordered-lts.Need-at-requires (claims t) (ordered-at t) ordered.Post
 ordered-at-requires t c κs = tt
@@ -91,7 +92,7 @@ ordered-returns-3 : (t : ℕ) → ordered-lts.Need-returns-3 (claims t) (ordered
 ordered-returns-3 t c =
     let z = c .before .before .before .before in
     let kis : c .before .k .result ≡ k (c .before .before .before .before .before .before .before .before .args .i) = c .before .k .ensures ∙ ap k (c .before .before .at .ensures) in
-    sym (decided-alone (reached-at t (c .before .before .before .before .before)) _ (omega arith) ∙ sym (z .ascends .ensures) ∙ not-false (z .ascends .result) (c .before .before .before .if2 .left))
+    sym (decided-alone (reached-at t (c .before .before .before .before .before)) _ _ (omega arith) ∙ sym (z .ascends .ensures) ∙ not-false (z .ascends .result) (c .before .before .before .if2 .left))
 
 ordered-last-entry-requires : (t : ℕ) → ordered-lts.Need-last-entry-requires (claims t) (ordered-at t) ordered.Post
 ordered-last-entry-requires t c κs = walk-at (reached-at t (c .before .before .before .before .before))

@@ -4,17 +4,17 @@ use mathlib.Core.Path.{sym, ap, _∙_}
 use native.Mathlib.Omega.{arith}
 use borrow.Author.Needs.{needs}
 use borrow.Author.Tests.{not-true, not-false}
-use Rattle.rules.specs.Entries.{wholeWord}
+use Rattle.rules.specs.Entries.{keyBy}
 use Rattle.rules.specs.Order.{ascends}
 use Rattle.order.proofs.AscentLaws.{Ascent, ascent-start, ascent-ends, ascent-breaks, ascent-goes-on, stretch-inside, stretch-is}
 use Rattle.order.proofs.ascends.Statement.{statement}
 use Rattle.order.proofs.ascends.Tie as tie
 
 abbrev Inv-loop : tie.InvT-loop
-Inv-loop a low head end last₀ p₀ last p = Ascent wholeWord a low head end last p
+Inv-loop rule a low head end last₀ p₀ last p = Ascent (keyBy rule) a low head end last p
 
 abbrev μ-loop : tie.MeasureT-loop
-μ-loop a low head end last₀ p₀ last p = end - p
+μ-loop rule a low head end last₀ p₀ last p = end - p
 
 start-place-requires : tie.Need-start-place-requires Inv-loop μ-loop
 start-place-requires c κs = c .before .pre .of
@@ -29,7 +29,7 @@ add-end : tie.Need-add-end Inv-loop μ-loop
 add-end c = omega (arith, stretch-inside _ _ _ (c .before .before .before .before .pre) (c .before .before .start-place .ensures) (c .count .ensures))
 
 loop-holds : tie.Need-loop-holds Inv-loop μ-loop
-loop-holds c = ascent-start wholeWord _ _ _ _ (omega arith) (stretch-inside _ _ _ (c .before .before .before .before .pre) (c .before .before .start-place .ensures) (c .count .ensures))
+loop-holds c = ascent-start _ _ _ _ _ (omega arith) (stretch-inside _ _ _ (c .before .before .before .before .pre) (c .before .before .start-place .ensures) (c .count .ensures))
 
 mul-e : tie.Need-mul-e Inv-loop μ-loop
 mul-e c = omega arith
@@ -44,8 +44,8 @@ returns : tie.Need-returns Inv-loop μ-loop
 returns c =
     let z = c .before .before .before .before .before in
     let is = stretch-is _ _ _ (z .before .before .before .before .pre) (z .before .before .start-place .ensures) (z .count .ensures) in
-    ascent-breaks wholeWord (c .before .before .before .before .loop .inv) (omega arith) (sym (c .before .goes-first .ensures) ∙ not-true (c .before .goes-first .result) (c .if1 .taken))
-    ∙ ap (ascends wholeWord (wholeWord (z .before .before .before .before .args .low))) is
+    ascent-breaks _ (c .before .before .before .before .loop .inv) (omega arith) (sym (c .before .goes-first .ensures) ∙ not-true (c .before .goes-first .result) (c .if1 .taken))
+    ∙ ap (ascends (keyBy _) (keyBy _ (z .before .before .before .before .args .low))) is
 
 add-p : tie.Need-add-p Inv-loop μ-loop
 add-p c = omega arith
@@ -54,14 +54,14 @@ loop-less : tie.Need-loop-less Inv-loop μ-loop
 loop-less c = omega arith
 
 loop-again : tie.Need-loop-again Inv-loop μ-loop
-loop-again c = ascent-goes-on wholeWord (c .before .before .before .before .loop .inv) (omega arith) (sym (c .before .goes-first .ensures) ∙ not-false (c .before .goes-first .result) (c .if1 .left))
+loop-again c = ascent-goes-on _ (c .before .before .before .before .loop .inv) (omega arith) (sym (c .before .goes-first .ensures) ∙ not-false (c .before .goes-first .result) (c .if1 .left))
 
 returns-2 : tie.Need-returns-2 Inv-loop μ-loop
 returns-2 c =
     let z = c .before .before in
     let is = stretch-is _ _ _ (z .before .before .before .before .pre) (z .before .before .start-place .ensures) (z .count .ensures) in
-    ascent-ends wholeWord (c .before .loop .inv) (omega arith)
-    ∙ ap (ascends wholeWord (wholeWord (z .before .before .before .before .args .low))) is
+    ascent-ends _ (c .before .loop .inv) (omega arith)
+    ∙ ap (ascends (keyBy _) (keyBy _ (z .before .before .before .before .args .low))) is
 
 pub ascends-spec : {M : Type 1} → statement M
 ascends-spec =

@@ -2,7 +2,8 @@
 use mathlib.Core.Path.{_≡_, sym, ap, _∙_}
 use native.Mathlib.Omega.{arith}
 use borrow.Author.Tests.{not-true, not-false}
-use Rattle.rules.specs.Entries.{wholeWord}
+use Rattle.rules.specs.Entries.{keyBy}
+use Rattle.rules.proofs.EntryOrder.{least-key}
 use Rattle.rules.specs.Order.{ordered}
 use Rattle.mergers.specs.Subtree.{subtree}
 use Rattle.buffers.specs.Format.{linksIn, buffersOf}
@@ -22,16 +23,19 @@ ordered-requires : tie.Need-ordered-requires
 ordered-requires c κs = root-can _ (c .before .before .before .pre) _ (c .links .ensures)
 
 -- what the walk has answered, of the links that the book says
-walked : (c : tie.After-ordered) → c .ordered .result ≡ ordered wholeWord (subtree (linksIn (c .before .before .before .before .args .a .now)) 1 0) (wholeWord 0) (buffersOf (c .before .before .before .before .args .a .now))
-walked c = c .ordered .ensures ∙ ap (λ l. ordered wholeWord (subtree l 1 0) (wholeWord 0) (buffersOf (c .before .before .before .before .args .a .now))) (c .before .links .ensures)
+walked : (c : tie.After-ordered) → let s = c .before .before .before .before .args in
+    c .ordered .result ≡ ordered (keyBy (s .rule)) (subtree (linksIn (s .a .now)) 1 0) (keyBy (s .rule) 0) (buffersOf (s .a .now))
+walked c =
+    let s = c .before .before .before .before .args in
+    c .ordered .ensures ∙ ap (λ l. ordered (keyBy (s .rule)) (subtree l 1 0) (keyBy (s .rule) 0) (buffersOf (s .a .now))) (c .before .links .ensures)
 
 returns : tie.Need-returns
-returns c = broken-in-tree _ (c .before .before .before .before .before .pre) (sym (walked (c .before)) ∙ not-true (c .before .ordered .result) (c .if1 .taken))
+returns c = broken-in-tree _ (c .before .before .before .before .before .pre) _ (least-key _) (sym (walked (c .before)) ∙ not-true (c .before .ordered .result) (c .if1 .taken))
 
 returns-2 : tie.Need-returns-2
 returns-2 c =
     c .before .before .before .ascends .ensures
-    ∙ left-to-insertion _ (c .before .before .before .before .before .pre) (sym (walked (c .before)) ∙ not-false (c .before .ordered .result) (c .if1 .left))
+    ∙ left-to-insertion _ (c .before .before .before .before .before .pre) _ (least-key _) (sym (walked (c .before)) ∙ not-false (c .before .ordered .result) (c .if1 .left))
 
 pub in-order-spec : {M : Type 1} → statement M
 in-order-spec =

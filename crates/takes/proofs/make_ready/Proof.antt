@@ -15,13 +15,13 @@ same-length : tie.Need-same-length
 same-length c = search needs
 
 returns : tie.Need-returns
-returns c = ready-filled (c .before .before .before .before .before .before .before .before .args .a .now) (c .before .before .before .before .before .before .before .before .args .last) (c .before .before .before .before .before .before .before .before .pre) (sym (c .before .before .before .before .before .wants-in .ensures) ∙ c .before .before .before .before .if1 .taken) _ _ (c .before .before .fill .ensures)
+returns c = ready-filled (c .before .before .before .before .before .before .before .before .args .a .now) (c .before .before .before .before .before .before .before .before .args .last) (c .before .before .before .before .before .before .before .before .pre) _ (sym (c .before .before .before .before .before .wants-in .ensures) ∙ c .before .before .before .before .if1 .taken) _ _ (c .before .before .fill .ensures)
 
 same-length-2 : tie.Need-same-length-2
 same-length-2 c = search needs
 
 returns-2 : tie.Need-returns-2
-returns-2 c = ready-alone (c .before .before .before .before .args .a .now) (c .before .before .before .before .args .last) (c .before .before .before .before .pre) (sym (c .before .wants-in .ensures) ∙ c .if1 .left)
+returns-2 c = ready-alone (c .before .before .before .before .args .a .now) (c .before .before .before .before .args .last) (c .before .before .before .before .pre) _ (sym (c .before .wants-in .ensures) ∙ c .if1 .left)
 
 pub make-ready-spec : {M : Type 1} → statement M
 make-ready-spec =

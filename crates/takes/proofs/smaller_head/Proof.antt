@@ -33,10 +33,10 @@ no-first : (c : tie.Then1) → length (xs (c .before)) ≡ 0
 no-first c = ap length (first-none (c .before .before .before .args .a .now) (c .before .before .before .args .last) (c .before .before .before .pre) (c .if1 .taken))
 
 returns : tie.Need-returns
-returns c = let k = c .before .before in none-of (xs k) (ys k) (no-first (c .before)) (omega (arith, second-long k, c .if2 .taken))
+returns c = let k = c .before .before in none-of _ (xs k) (ys k) (no-first (c .before)) (omega (arith, second-long k, c .if2 .taken))
 
 returns-2 : tie.Need-returns-2
-returns-2 c = let k = c .before .before in second-of (xs k) (ys k) (no-first (c .before)) (omega (arith, second-long k, c .if2 .left))
+returns-2 c = let k = c .before .before in second-of _ (xs k) (ys k) (no-first (c .before)) (omega (arith, second-long k, c .if2 .left))
 
 count-requires-2 : tie.Need-count-requires-2
 count-requires-2 c κs = first-has (c .before .before .before .args .a .now) (c .before .before .before .args .last) (c .before .before .before .pre)
@@ -51,19 +51,19 @@ returns-3 : tie.Need-returns-3
 returns-3 c =
     let x = c .before .before in
     let k = x .before .before in
-    none-of (xs k) (ys k) (omega (arith, first-long x, c .before .if3 .taken)) (omega (arith, second-long k, c .if4 .taken))
+    none-of _ (xs k) (ys k) (omega (arith, first-long x, c .before .if3 .taken)) (omega (arith, second-long k, c .if4 .taken))
 
 returns-4 : tie.Need-returns-4
 returns-4 c =
     let x = c .before .before in
     let k = x .before .before in
-    second-of (xs k) (ys k) (omega (arith, first-long x, c .before .if3 .taken)) (omega (arith, second-long k, c .if4 .left))
+    second-of _ (xs k) (ys k) (omega (arith, first-long x, c .before .if3 .taken)) (omega (arith, second-long k, c .if4 .left))
 
 returns-5 : tie.Need-returns-5
 returns-5 c =
     let x = c .before .before in
     let k = x .before .before in
-    first-of (xs k) (ys k) (omega (arith, first-long x, c .before .if3 .left)) (omega (arith, second-long k, c .if5 .taken))
+    first-of _ (xs k) (ys k) (omega (arith, first-long x, c .before .if3 .left)) (omega (arith, second-long k, c .if5 .taken))
 
 add-head : tie.Need-add-head
 add-head c = search needs
@@ -99,7 +99,7 @@ returns-6 c =
     let el = hx .before in
     let x = el .before .before in
     let k = x .before .before in
-    smaller-first (xs k) (ys k) (omega (arith, first-long x, el .before .if3 .left)) (omega (arith, second-long k, el .if5 .left))
+    smaller-first _ (xs k) (ys k) (omega (arith, first-long x, el .before .if3 .left)) (omega (arith, second-long k, el .if5 .left))
     (rw (← first-head hx, ← second-head hy) (sym (c .before .goes-first .ensures) ∙ c .if6 .taken))
 
 returns-7 : tie.Need-returns-7
@@ -109,7 +109,7 @@ returns-7 c =
     let el = hx .before in
     let x = el .before .before in
     let k = x .before .before in
-    smaller-second (xs k) (ys k) (omega (arith, first-long x, el .before .if3 .left)) (omega (arith, second-long k, el .if5 .left))
+    smaller-second _ (xs k) (ys k) (omega (arith, first-long x, el .before .if3 .left)) (omega (arith, second-long k, el .if5 .left))
     (rw (← first-head hx, ← second-head hy) (sym (c .before .goes-first .ensures) ∙ c .if6 .left))
 
 pub smaller-head-spec : {M : Type 1} → statement M

@@ -2,15 +2,16 @@
 use Prim.Native.Nat.{_-_, _≤_}
 use native.Mathlib.Omega.{arith}
 use lib.ListN.{length}
+use Rattle.rules.specs.Entries.{keyBy}
 use Rattle.takes.proofs.EmptyLaws.{Emptying, empty-start, work-long, place-in, empty-more, empty-all, total-small, steps-fit}
 use Rattle.takes.proofs.take_all.Statement.{statement}
 use Rattle.takes.proofs.take_all.Tie as tie
 
 abbrev Inv-loop : tie.InvT-loop
-Inv-loop a₀ last work₀ count steps₀ n₀ a work steps n = Emptying a₀ last work₀ a work count n steps
+Inv-loop rule a₀ last work₀ count steps₀ n₀ a work steps n = Emptying (keyBy rule) a₀ last work₀ a work count n steps
 
 abbrev μ-loop : tie.MeasureT-loop
-μ-loop a₀ last work₀ count steps₀ n₀ a work steps n = count - n
+μ-loop rule a₀ last work₀ count steps₀ n₀ a work steps n = count - n
 
 held-now-requires : tie.Need-held-now-requires Inv-loop μ-loop
 held-now-requires c κs = (c .before .before .before .pre .can .array, c .before .before .before .pre .can .links)
