@@ -1,5 +1,5 @@
 -- Packing: all is taken out, laid into the S of the last link, and counted there.
-use Prim.Native.Nat.{ℕ, suc, _+_, _-_, _/_, _≤_, _<_}
+use Prim.Native.Nat.{ℕ, suc, _+_, _-_, _^_, _/_, _≤_, _<_}
 use mathlib.Core.Path.{_≡_, sym, ap, _∙_, subst}
 use mathlib.Core.Logic.{inr}
 use mathlib.Core.Bool.{true}
@@ -10,7 +10,8 @@ use native.Mathlib.Nat.{div-lt-iff-lt-mul}
 use native.Mathlib.Numerals.{add-one}
 use lib.ListN.{length, getD, take, drop, replicate, length-append, length-replicate, getD-replicate, List·getD-append}
 use lib.Seq.{ext-getD, getD-at, take-append-seam, length-take-le}
-use Rattle.rules.specs.Entries.{wholeWord}
+use Rattle.rules.specs.declared.Rule.{Rule}
+use Rattle.rules.specs.Entries.{keyBy}
 use Rattle.rules.specs.Links.{from, s, bufferCount, most, words, LinkNumber}
 use Rattle.rules.specs.Tree.{linksFrom, treeOf}
 use Rattle.rules.specs.Take.{takeAll}
@@ -28,6 +29,7 @@ use Rattle.buffers.specs.Post.{Kept}
 use Rattle.buffers.specs.Counters.{HasCounter, CounterPut}
 use Rattle.buffers.proofs.SlotLaws.{words-end, behind-book, some}
 use Rattle.buffers.proofs.ArrayLaws.{length-each, each-at, buffers-length, kept-links, kept-then, kept-unused, unused-behind}
+use Rattle.buffers.proofs.KeyLaws.{key-given}
 use Rattle.buffers.proofs.CounterLaws.{has-counter, put-word, put-inside, put-buffers}
 use Rattle.mergers.specs.Fills.{MarksRight}
 use Rattle.runs.proofs.LayingLaws.{length-laid, laid-outside}
@@ -67,18 +69,21 @@ counters-are f links n low last before =
 
 -- ---- the rules' packing, in links of the array
 
-abbrev packedIn : List ℕ → ℕ → Inserted
-packedIn ws links =
-    let z = takeAll wholeWord (linksFrom 1 links) (buffersOf ws) in
+abbrev packedIn : (ℕ → ℕ) → List ℕ → ℕ → Inserted
+packedIn key ws links =
+    let z = takeAll key (linksFrom 1 links) (buffersOf ws) in
     record { queue = record { links = links; counters = packedCounters links (length (z .out)); buffers = laidOut links (z .out) }; steps = z .steps; packed = true }
 
-packed-is : (ws : List ℕ) (links : ℕ) → linksIn ws ≡ links → packed (queueOf (lentOf ws)) ≡ packedIn ws links
-unfolding packed keyOf treeOf queueOf lentOf bookOf
-packed-is ws links of = ap (packedIn ws) of
+packed-is : (key : ℕ → ℕ) (ws : List ℕ) (links : ℕ) → keyOf (queueOf (lentOf ws)) ≡ key → linksIn ws ≡ links → packed (queueOf (lentOf ws)) ≡ packedIn key ws links
+unfolding packed treeOf queueOf lentOf bookOf
+packed-is key ws links by of = λ x. packedIn (by x) ws (of x)
 
 -- ---- all is taken out
 
-module _ {ws : List ℕ} {links : ℕ} {work : List ℕ} (h : CanPack ws links work) where
+module _ {rule : Rule} {ws : List ℕ} {links : ℕ} {work : List ℕ} (h : CanPack rule ws links work) where
+  abbrev key : ℕ → ℕ
+  key = keyBy rule
+
   link : LinkNumber links
   link = subst LinkNumber (h .of) (h .moves .can .array .link)
 
@@ -95,15 +100,15 @@ module _ {ws : List ℕ} {links : ℕ} {work : List ℕ} (h : CanPack ws links w
   pack-empties = record { can = can-take-all; room = omega (arith, few-held, room-for-most) }
 
   abbrev out : List ℕ
-  out = takeAll wholeWord (linksFrom 1 links) (buffersOf ws) .out
+  out = takeAll key (linksFrom 1 links) (buffersOf ws) .out
 
   out-held : length out ≡ heldFrom 0 (bufferCount links) (buffersOf ws)
   unfolding treeOf
   out-held =
       let enough : bufferCount links ≤ length (buffersOf ws) = omega (arith, buffers-length ws, ap bufferCount (h .of)) in
-      takeAll-empties wholeWord (tree-roomy links) (buffersOf ws) (beside-tree links (buffersOf ws) enough) .1 ∙ sym (all-held ws links can-take-all)
+      takeAll-empties key (tree-roomy links) (buffersOf ws) (beside-tree links (buffersOf ws) enough) .1 ∙ sym (all-held ws links can-take-all)
 
-  module _ {ws₁ work₁ : List ℕ} {count steps : ℕ} (z : TookAll ws ws₁ links (takeAll wholeWord (linksFrom 1 links) (buffersOf ws)) work work₁ count steps) where
+  module _ {ws₁ work₁ : List ℕ} {count steps : ℕ} (z : TookAll ws ws₁ links (takeAll key (linksFrom 1 links) (buffersOf ws)) work work₁ count steps) where
     pub pack-few : count ≤ most links
     pack-few = omega (arith, z .all, out-held, few-held)
 
@@ -135,10 +140,10 @@ module _ {ws : List ℕ} {links : ℕ} {work : List ℕ} (h : CanPack ws links w
       pub pack-size : 1 ≤ size
       pack-size = omega (arith, size-now, s-least links (link .low))
 
-      pub pack-sum : count + (size - 1) ≤ 3998715
+      pub pack-sum : count + (size - 1) < 2 ^ 32
       pack-sum = omega (arith, size-now, s-most link, z .all, total-small ws links (length out) can-take-all out-held)
 
-      pub pack-used : (count + (size - 1)) / size < 4000000
+      pub pack-used : (count + (size - 1)) / size < 2 ^ 32
       pack-used = div-lt-iff-lt-mul pack-size .1 (omega (arith, pack-size, pack-sum))
 
     -- ---- laid out and counted
@@ -166,7 +171,7 @@ module _ {ws : List ℕ} {links : ℕ} {work : List ℕ} (h : CanPack ws links w
         buffers-then : buffersOf ws₃ ≡ laidOut links out
         buffers-then = put-buffers pack-counter c ∙ l .state ∙ ap (laidOut links) run-is
 
-        queue-then : queueOf (lentOf ws₃) ≡ packedIn ws links .queue
+        queue-then : queueOf (lentOf ws₃) ≡ packedIn key ws links .queue
         unfolding queueOf lentOf bookOf
         queue-then = λ i. record { links = links-then i; counters = counters-then i; buffers = buffers-then i }
 
@@ -181,12 +186,12 @@ module _ {ws : List ℕ} {links : ℕ} {work : List ℕ} (h : CanPack ws links w
 
         pub pack-made : MadeRoom ws ws₃ (packed (queueOf (lentOf ws))) work work₁ steps
         pack-made =
-            let rule = packed-is ws links (h .of) in
+            let as-ruled = packed-is key ws links (key-given ws (h .moves .ruled)) (h .of) in
             record {
               array = put-inside pack-counter c;
               links = c .zeroth ∙ kept-links kept;
-              queue-is = queue-then ∙ sym (ap (λ (r : Inserted). r .queue) rule);
-              made = z .made ∙ sym (ap (λ (r : Inserted). r .steps) rule);
+              queue-is = queue-then ∙ sym (ap (λ (r : Inserted). r .queue) as-ruled);
+              made = z .made ∙ sym (ap (λ (r : Inserted). r .steps) as-ruled);
               marks = marks-then;
               mark-I = λ e. absurd (omega (arith, no-mark 0 (omega (arith, some (put-inside pack-counter c .link)))));
               long = c .long ∙ kept .long;

@@ -8,6 +8,7 @@ use native.Mathlib.Omega.{arith}
 use borrow.Author.Tests.{le-leb, lt-leb, eq-eqb, ne-eqb}
 use lib.Dec.{leb, eqb}
 use lib.ListN.{length}
+use Rattle.rules.specs.declared.Rule.{Rule}
 use Rattle.rules.specs.Take.{insertion}
 use Rattle.rules.specs.Queue.{Queue}
 use Rattle.rules.specs.Insert.{lowest, Inserted, swept, packed, makeRoom}
@@ -16,7 +17,7 @@ use Rattle.buffers.specs.Format.{linksIn, bookOf, lentOf, bufferOf}
 use Rattle.buffers.specs.Slots.{capacityOf}
 use Rattle.buffers.specs.Post.{Inside, Has}
 use Rattle.buffers.proofs.ArrayLaws.{buffer-length}
-use Rattle.sweeps.specs.Room.{CanSweep, CanPack, CanMakeRoom, MadeRoom}
+use Rattle.sweeps.specs.Room.{CanSweep, CanMakeRoom, MadeRoom}
 use Rattle.takes.proofs.ReadyLaws.{insertion-has, insertion-is}
 
 -- ---- the three cases of making room
@@ -43,25 +44,22 @@ room-packed q eight past = room-when q true false (eq-eqb (length (insertion (q 
 
 -- ---- room over the array
 
-module _ (ws work : List ℕ) (h : CanMakeRoom ws work) where
+module _ {rule : Rule} (ws work : List ℕ) (h : CanMakeRoom rule ws work) where
   abbrev q : Queue
   q = queueOf (lentOf ws)
 
   array : Inside ws
   array = h .moves .can .array
 
-  I-has : Has ws 0
-  I-has = insertion-has ws (linksIn ws) (h .moves .can)
-
   pub counts-I : Has ws 0
-  counts-I = I-has
+  counts-I = insertion-has ws (linksIn ws) (h .moves .can)
 
   I-long : length (insertion (q .buffers)) ≡ length (bufferOf ws 0)
   unfolding queueOf lentOf
   I-long = ap length (insertion-is ws (linksIn ws) (h .moves .can))
 
   pub some-words : 0 < length ws
-  some-words = omega (arith, I-has .slots, I-has .behind)
+  some-words = omega (arith, counts-I .slots, counts-I .behind)
 
   pub room-there : (n : ℕ) → n ≡ length (bufferOf ws 0) → n < 8 → MadeRoom ws ws (makeRoom q) work work 0
   room-there n n-is less =
@@ -85,28 +83,20 @@ module _ (ws work : List ℕ) (h : CanMakeRoom ws work) where
 
   I-full : (n : ℕ) → n ≡ length (bufferOf ws 0) → 8 ≤ n → length (insertion (q .buffers)) ≡ 8
   unfolding capacityOf
-  I-full n n-is eight = omega (arith, I-long, buffer-length ws 0 I-has, I-has .fits)
+  I-full n n-is eight = omega (arith, I-long, buffer-length ws 0 counts-I, counts-I .fits)
 
   module _ (n : ℕ) (n-is : n ≡ length (bufferOf ws 0)) (eight : 8 ≤ n) (l : ℕ) (l-is : l ≡ linksIn ws) (i : ℕ) (i-is : i ≡ lowest 1 (bookOf ws .counters)) where
-    pub can-sweep : i ≤ l → CanSweep ws i work
+    pub can-sweep : i ≤ l → CanSweep rule ws i work
     can-sweep there = rw i-is (h .sweeps (omega (arith, i-is, l-is)))
 
-    pub swept-room : i ≤ l → (ws′ work′ : List ℕ) (steps : ℕ) → MadeRoom ws ws′ (swept i q) work work′ steps → MadeRoom ws ws′ (makeRoom q) work work′ steps
-    unfolding queueOf lentOf
-    swept-room there ws′ work′ steps z =
-        subst (λ y. MadeRoom ws ws′ y work work′ steps) (ap (λ m. swept m q) i-is ∙ sym (room-swept q (I-full n n-is eight) (omega (arith, i-is, l-is)))) z
-
-    pub swept-packs-not : i ≤ l → false ≡ makeRoom q .packed
+    pub swept-room : i ≤ l → (ws′ work′ : List ℕ) (steps : ℕ) → MadeRoom ws ws′ (swept i q) work work′ steps → MadeRoom ws ws′ (makeRoom q) work work′ steps × (false ≡ makeRoom q .packed)
     unfolding queueOf lentOf swept
-    swept-packs-not there = sym (ap (λ (y : Inserted). y .packed) (room-swept q (I-full n n-is eight) (omega (arith, i-is, l-is))))
+    swept-room there ws′ work′ steps z =
+        let e = room-swept q (I-full n n-is eight) (omega (arith, i-is, l-is)) in
+        (subst (λ y. MadeRoom ws ws′ y work work′ steps) (ap (λ m. swept m q) i-is ∙ sym e) z, sym (ap (λ (y : Inserted). y .packed) e))
 
-    pub can-pack : CanPack ws l work
-    can-pack = record { moves = h .moves; of = sym l-is }
-
-    pub packed-room : l < i → (ws′ work′ : List ℕ) (steps : ℕ) → MadeRoom ws ws′ (packed q) work work′ steps → MadeRoom ws ws′ (makeRoom q) work work′ steps
-    unfolding queueOf lentOf
-    packed-room past ws′ work′ steps z = subst (λ y. MadeRoom ws ws′ y work work′ steps) (sym (room-packed q (I-full n n-is eight) (omega (arith, i-is, l-is)))) z
-
-    pub packed-packs : l < i → true ≡ makeRoom q .packed
+    pub packed-room : l < i → (ws′ work′ : List ℕ) (steps : ℕ) → MadeRoom ws ws′ (packed q) work work′ steps → MadeRoom ws ws′ (makeRoom q) work work′ steps × (true ≡ makeRoom q .packed)
     unfolding queueOf lentOf packed
-    packed-packs past = sym (ap (λ (y : Inserted). y .packed) (room-packed q (I-full n n-is eight) (omega (arith, i-is, l-is))))
+    packed-room past ws′ work′ steps z =
+        let e = room-packed q (I-full n n-is eight) (omega (arith, i-is, l-is)) in
+        (subst (λ y. MadeRoom ws ws′ y work work′ steps) (sym e) z, sym (ap (λ (y : Inserted). y .packed) e))

@@ -5,12 +5,11 @@ use mathlib.Core.Logic.{inr}
 use mathlib.Core.List.{List, [], _∷_, _++_, map}
 use native.Mathlib.Omega.{arith}
 use native.Mathlib.Decide.{decLt, ℕ-discrete}
-use lib.Dec.{leb, leb→le}
 use lib.ListN.{length, getD, take, drop}
 use lib.Seq.{ext-getD, take-at, length-take-le}
-use Rattle.rules.specs.Entries.{wholeWord}
-use Rattle.rules.specs.Tests.{every}
-use Rattle.rules.specs.Links.{k, s, first, sum, most, from, bufferCount, words, LinkNumber}
+use Rattle.rules.specs.declared.Rule.{Rule}
+use Rattle.rules.specs.Entries.{keyBy}
+use Rattle.rules.specs.Links.{s, first, sum, most, from, bufferCount, pathRoom, bookWords, words, LinkNumber}
 use Rattle.rules.specs.Tree.{Buffers, kMerger, linksFrom, treeOf}
 use Rattle.rules.specs.Take.{Taken, insertion, takeAll}
 use Rattle.rules.specs.Queue.{Queue, keyOf, counter, heldFrom}
@@ -18,7 +17,7 @@ use Rattle.rules.specs.Sweep.{outputs, pathInLink, path, counts, runAlong, swee
 use Rattle.rules.specs.Insert.{swept}
 use Rattle.rules.specs.Rest.{restOfSweep}
 use Rattle.rules.specs.Calls.{queueOf}
-use Rattle.rules.proofs.Table.{each-link, k-most}
+use Rattle.rules.proofs.Table.{k-in-book}
 use Rattle.rules.proofs.Numbers.{Stands}
 use Rattle.rules.proofs.Sizes.{first-mono, first-next, first-some, k-some}
 use Rattle.rules.proofs.Numbering.{links-range, links-among, kMerger-range}
@@ -30,8 +29,11 @@ use Rattle.rules.proofs.SweepLaws.{sweep-long, run-within, swept-insertion, swe
 use Rattle.buffers.specs.Format.{linksIn, counterIn, markIn, countOf, markOf, wordOf, many, bookOf, lentOf, buffersOf}
 use Rattle.buffers.specs.Post.{Inside}
 use Rattle.buffers.specs.Counters.{HasCounter, CounterPut}
+use Rattle.buffers.specs.Weights.{broken}
+use Rattle.buffers.proofs.LinkWeights.{most-small}
 use Rattle.buffers.proofs.SlotLaws.{behind-book, in-words, some}
 use Rattle.buffers.proofs.ArrayLaws.{has, length-each, each-at, buffer-length, buffers-at, buffers-length, kept-links, kept-unused, unused-behind}
+use Rattle.buffers.proofs.KeyLaws.{key-given}
 use Rattle.buffers.proofs.CounterLaws.{has-counter, put-word, put-inside, put-buffers}
 use Rattle.mergers.specs.Fills.{MarksRight}
 use Rattle.mergers.proofs.FillLaws.{in-stands}
@@ -46,12 +48,6 @@ use Rattle.takes.specs.Emptying.{CanEmpty, TookAll}
 use Rattle.sweeps.specs.Room.{RefillingFrom, CanSweep, MadeRoom}
 use Rattle.takes.proofs.EmptyLaws.{all-held}
 use Rattle.sweeps.proofs.MarkLaws.{marks-fewer, marks-behind, all-taken, all-first, all-second, not-on-taken, Clear, AsBefore, marks-way, marks-through}
-
--- ---- sizes
-
-pub most-small : {l : ℕ} → LinkNumber l → most l ≤ 17280
-unfolding every most k s
-most-small {l} h = leb→le (most l) 17280 (each-link (λ l. leb (most l) 17280) tt h)
 
 -- the first buffers hold no more than all
 pub held-part : (m n : ℕ) (bs : Buffers) → m ≤ n → heldFrom 0 m bs ≤ heldFrom 0 n bs
@@ -98,7 +94,7 @@ put-by {ws} {ws′} {i} e u = subst (λ n. CounterPut ws ws′ i (n + 1)) e u
 
 -- ---- the sweep
 
-module _ (ws : List ℕ) (i : ℕ) (work : List ℕ) (h : CanSweep ws i work) where
+module _ {rule : Rule} (ws : List ℕ) (i : ℕ) (work : List ℕ) (h : CanSweep rule ws i work) where
   abbrev links : ℕ
   links = linksIn ws
 
@@ -111,12 +107,15 @@ module _ (ws : List ℕ) (i : ℕ) (work : List ℕ) (h : CanSweep ws i work) wh
   abbrev q : Queue
   q = queueOf (lentOf ws)
 
+  abbrev key : ℕ → ℕ
+  key = keyBy rule
+
   -- what the emptying brings, and the run along the path
   abbrev z : Taken
-  z = takeAll wholeWord (linksFrom 1 (i - 1)) (buffersOf ws)
+  z = takeAll (keyBy rule) (linksFrom 1 (i - 1)) (buffersOf ws)
 
   abbrev along : List ℕ
-  along = runAlong (pathInLink i (counterIn ws i)) (takeAll wholeWord (linksFrom 1 (i - 1)) (buffersOf ws) .buffers)
+  along = runAlong (pathInLink i (counterIn ws i)) (takeAll (keyBy rule) (linksFrom 1 (i - 1)) (buffersOf ws) .buffers)
 
   array : Inside ws
   array = h .moves .can .array
@@ -124,19 +123,24 @@ module _ (ws : List ℕ) (i : ℕ) (work : List ℕ) (h : CanSweep ws i work) wh
   link : LinkNumber i
   link = record { low = h .low; high = omega (arith, h .there, array .link .high) }
 
-  pub counter-small : j ≤ 16
-  counter-small = omega (arith, h .unspent, k-most link)
+  pub counter-small : j ≤ bookWords
+  counter-small = omega (arith, h .unspent, k-in-book link)
 
   pub counter-there : HasCounter ws i
   counter-there = has-counter ws i array (h .low) (h .there)
 
-  pub ends : (ns : List ℕ) → length ns ≡ 16 → Ends i j ns
-  ends ns long = record { way = record { link = link; long = long }; low = h .counted; high = h .unspent; few = k-most link }
+  pub ends : (ns : List ℕ) → length ns ≡ pathRoom → Ends i j ns
+  ends ns long = record { way = record { link = link; long = long }; low = h .counted; high = h .unspent; few = omega (arith, k-in-book link) }
 
   -- c(i) as the rules read it
   counter-q : counter q i ≡ j
   unfolding counter queueOf lentOf bookOf
   counter-q = let e : 1 + (i - 1) ≡ i = omega (arith, h .low) in each-at (counterIn ws) 1 (linksIn ws) (i - 1) 0 (omega (arith, h .low, h .there)) ∙ ap (counterIn ws) e
+
+  -- the rules' own sweep is by the rule that is given
+  same-sweep : sweepTo (keyOf q) i (counter q i) (q .buffers) ≡ sweepTo key i j bs
+  unfolding queueOf lentOf
+  same-sweep = λ x. sweepTo (key-given ws (h .moves .ruled) x) i (counter-q x) bs
 
   whole : (i - 1) + suc (links - i) ≡ links
   whole = omega (arith, h .low, h .there)
@@ -168,21 +172,21 @@ module _ (ws : List ℕ) (i : ℕ) (work : List ℕ) (h : CanSweep ws i work) wh
   both-fit =
       omega (
         arith,
-        join-long wholeWord along (z .out),
-        run-within wholeWord links i j (h .low) (h .there) (h .counted) (h .unspent) bs as-many,
+        join-long key along (z .out),
+        run-within key links i j (h .low) (h .there) (h .counted) (h .unspent) bs as-many,
         all-held ws links (h .moves .can),
         h .moves .few,
       )
 
-  rest-fits : sweepTo wholeWord i j bs .rest ≤ s i
-  unfolding restOfSweep keyOf queueOf lentOf
-  rest-fits = subst (λ c. sweepTo wholeWord i c (buffersOf ws) .rest ≤ s i) counter-q (h .fits)
+  rest-fits : sweepTo key i j bs .rest ≤ s i
+  unfolding restOfSweep
+  rest-fits = subst (λ z. z .rest ≤ s i) same-sweep (h .fits)
 
-  long-run : length along + length (z .out) ≡ sum (counts (path i j) bs) + sweepTo wholeWord i j bs .rest
-  long-run = sym (join-long wholeWord along (z .out)) ∙ sweep-long wholeWord links i j (h .low) (h .there) (h .counted) (h .unspent) bs as-many
+  long-run : length along + length (z .out) ≡ sum (counts (path i j) bs) + sweepTo key i j bs .rest
+  long-run = sym (join-long key along (z .out)) ∙ sweep-long key links i j (h .low) (h .there) (h .counted) (h .unspent) bs as-many
 
   module _ (ns : List ℕ) (r : ℕ) (p : PathIs i j ns r) where
-    pub notes : (cs : List ℕ) → length cs ≡ 16 → Noting ws ns r cs
+    pub notes : (cs : List ℕ) → length cs ≡ pathRoom → Noting ws ns r cs
     notes cs long = record { path = path-on link j (h .counted) (h .unspent) p ws array (h .there); room = long }
 
     module _ (ws₁ work₁ : List ℕ) (count steps : ℕ) (t : TookAll ws ws₁ (i - 1) z work work₁ count steps) where
@@ -207,7 +211,7 @@ module _ (ws : List ℕ) (i : ℕ) (work : List ℕ) (h : CanSweep ws i work) wh
         end-is : m ≡ length along
         end-is = g .many ∙ ap length along-is
 
-        pub end-small : count + m ≤ 17280
+        pub end-small : count + m ≤ broken
         end-small = omega (arith, end-is, t .all, both-fit, most-small (array .link))
 
         laid₂ : work₂ ≡ laidAt work₁ count along
@@ -237,7 +241,7 @@ module _ (ws : List ℕ) (i : ℕ) (work : List ℕ) (h : CanSweep ws i work) wh
                 within = omega (arith, inside₁, end-is, work₂-long, work₁-long);
               }
 
-          module _ (ws₂ : List ℕ) (f : Refilled ws₁ ws₂ ns cs r (stretch count (count + m) work₂) (take count work₂)) where
+          module _ (ws₂ : List ℕ) (f : Refilled key ws₁ ws₂ ns cs r (stretch count (count + m) work₂) (take count work₂)) where
             links₂ : linksIn ws₂ ≡ links
             links₂ = kept-links (f .kept) ∙ kept-links (t .kept)
 
@@ -248,7 +252,7 @@ module _ (ws : List ℕ) (i : ℕ) (work : List ℕ) (h : CanSweep ws i work) wh
               links₃ : linksIn ws₃ ≡ links
               links₃ = u .zeroth ∙ links₂
 
-              buffers₃ : buffersOf ws₃ ≡ sweepTo wholeWord i j bs .buffers
+              buffers₃ : buffersOf ws₃ ≡ sweepTo key i j bs .buffers
               unfolding sweepTo
               buffers₃ =
                   put-buffers counter-there₂ u ∙ refilled-state link j (h .counted) (h .unspent) p array (h .there) noted f
@@ -264,8 +268,8 @@ module _ (ws : List ℕ) (i : ℕ) (work : List ℕ) (h : CanSweep ws i work) wh
                   (λ n behind within. u .behind n behind ∙ same-counter n (omega (arith, array .link .high)))
 
               queue₃ : queueOf (lentOf ws₃) ≡ swept i q .queue
-              unfolding swept keyOf queueOf lentOf bookOf
-              queue₃ = λ x. record { links = links₃ x; counters = counters₃ x; buffers = (buffers₃ ∙ sym (ap (λ c. sweepTo wholeWord i c (buffersOf ws) .buffers) counter-q)) x }
+              unfolding swept queueOf lentOf bookOf
+              queue₃ = λ x. record { links = links₃ x; counters = counters₃ x; buffers = (buffers₃ ∙ sym (ap (λ z. z .buffers) same-sweep)) x }
 
               mark₃ : (n : ℕ) → markOf ws₃ n ≡ markOf ws₂ n
               mark₃ n = ap markIn (put-word counter-there₂ u n)
@@ -287,14 +291,14 @@ module _ (ws : List ℕ) (i : ℕ) (work : List ℕ) (h : CanSweep ws i work) wh
                   put-word counter-there₂ u n ∙ f .others n (rw (kept-links (t .kept)) less) other
                   ∙ t .others n less (λ e. absurd (omega (arith, range .0, first-some i (h .low)))) (λ b. absurd (omega (arith, rw at-i at (links-range 1 (i - 1) (omega arith) (in-stands n (linksFrom 1 (i - 1)) b) .1), range .0))) in (
                     ap markIn word,
-                    rw buffers₃ (swept-no-more wholeWord links i j (h .low) (h .there) (h .counted) (h .unspent) bs as-many n
+                    rw buffers₃ (swept-no-more key links i j (h .low) (h .there) (h .counted) (h .unspent) bs as-many n
                         (λ e. other (r - 1) (omega (arith, p .many, path-long link j (h .counted) (h .unspent))) (e ∙ sym (last-number link j (h .counted) (h .unspent) p)))),
                   )
 
               nothing-below : (b : ℕ) → 1 ≤ b → b < 1 + (i - 1) → (n : ℕ) → Stands n (kMerger b) → getD (buffersOf ws₃) n [] ≡ []
               nothing-below b low less n st =
                   let range = kMerger-range b low st in
-                  rw buffers₃ (swept-lower wholeWord links i j (h .low) (h .there) (h .counted) (h .unspent) bs as-many b low (omega arith) n (range .0) (range .1))
+                  rw buffers₃ (swept-lower key links i j (h .low) (h .there) (h .counted) (h .unspent) bs as-many b low (omega arith) n (range .0) (range .1))
 
               marks₃ : MarksRight ws₃ (linksFrom 1 (linksIn ws₃))
               unfolding path bufferCount
@@ -315,16 +319,16 @@ module _ (ws : List ℕ) (i : ℕ) (work : List ℕ) (h : CanSweep ws i work) wh
                   let array₃ = put-inside counter-there₂ u in
                   let less : 0 < many ws₃ = omega (arith, some (array₃ .link)) in
                   sym (ap length (buffers-at ws₃ 0 less) ∙ buffer-length ws₃ 0 (has ws₃ 0 array₃ less))
-                  ∙ ap (λ b. length (getD b 0 [])) buffers₃ ∙ ap length (swept-insertion wholeWord links i j (h .low) (h .there) (h .counted) (h .unspent) bs as-many)
+                  ∙ ap (λ b. length (getD b 0 [])) buffers₃ ∙ ap length (swept-insertion key links i j (h .low) (h .there) (h .counted) (h .unspent) bs as-many)
 
               pub made-room : MadeRoom ws ws₃ (swept i q) work work₂ steps
-              unfolding swept sweepTo keyOf queueOf lentOf
+              unfolding swept sweepTo queueOf lentOf
               made-room =
                   record {
                     array = put-inside counter-there₂ u;
                     links = links₃;
                     queue-is = queue₃;
-                    made = t .made;
+                    made = t .made ∙ sym (ap (λ z. z .steps) same-sweep);
                     marks = marks₃;
                     mark-I = λ e. none-in-I;
                     long = u .long ∙ f .kept .long ∙ t .kept .long;

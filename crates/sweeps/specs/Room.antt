@@ -3,21 +3,23 @@ use mathlib.Core.Path.{_≡_}
 use mathlib.Core.List.{List, []}
 use Prim.Native.Nat.{ℕ, _≤_}
 use lib.ListN.{length, getD, take}
+use Rattle.rules.specs.declared.Rule.{Rule}
 use Rattle.rules.specs.Links.{s, k, most, numberOfS, words}
 use Rattle.rules.specs.Tree.{linksFrom}
 use Rattle.rules.specs.Queue.{heldFrom}
 use Rattle.rules.specs.Insert.{Inserted, lowest}
 use Rattle.rules.specs.Rest.{restOfSweep}
 use Rattle.rules.specs.Calls.{queueOf}
-use Rattle.buffers.specs.Format.{linksIn, counterIn, countOf, markOf, many, bookOf, bufferOf, buffersOf, lentOf}
+use Rattle.buffers.specs.Format.{linksIn, counterIn, ruleIn, countOf, markOf, many, bookOf, bufferOf, buffersOf, lentOf}
 use Rattle.buffers.specs.Post.{Inside, Unused}
 use Rattle.mergers.specs.Fills.{MarksRight}
 use Rattle.paths.specs.Refills.{Refilling}
 use Rattle.runs.specs.Promises.{stretch}
 use Rattle.takes.specs.Heads.{CanTake}
 
--- a take can be made over all links, and the work area has room for all that a queue of them holds
-pub record CanMove (ws work : List ℕ) : Type 0 where
+-- the rule is the array's, a take can be made over all links, and the work area has room for all that a queue of them holds
+pub record CanMove (rule : Rule) (ws work : List ℕ) : Type 0 where
+  pub ruled : rule ≡ ruleIn ws
   pub can : CanTake ws (linksIn ws)
   pub few : heldFrom 0 (many ws) (buffersOf ws) ≤ most (linksIn ws)
   pub room : most (linksIn ws) ≤ length work
@@ -29,8 +31,8 @@ pub record RefillingFrom (ws ns cs : List ℕ) (n : ℕ) (work : List ℕ) (at e
   pub within : end ≤ length work
 
 -- S(i, c(i)) is there and empty, and what is left over has its place in it
-pub record CanSweep (ws : List ℕ) (i : ℕ) (work : List ℕ) : Type 0 where
-  pub moves : CanMove ws work
+pub record CanSweep (rule : Rule) (ws : List ℕ) (i : ℕ) (work : List ℕ) : Type 0 where
+  pub moves : CanMove rule ws work
   pub low : 1 ≤ i
   pub there : i ≤ linksIn ws
   pub counted : 1 ≤ counterIn ws i
@@ -38,15 +40,15 @@ pub record CanSweep (ws : List ℕ) (i : ℕ) (work : List ℕ) : Type 0 where
   pub empty : bufferOf ws (numberOfS i (counterIn ws i)) ≡ []
   pub fits : restOfSweep i (queueOf (lentOf ws)) ≤ s i
 
-pub record CanPack (ws : List ℕ) (links : ℕ) (work : List ℕ) : Type 0 where
-  pub moves : CanMove ws work
+pub record CanPack (rule : Rule) (ws : List ℕ) (links : ℕ) (work : List ℕ) : Type 0 where
+  pub moves : CanMove rule ws work
   pub of : linksIn ws ≡ links
 
 -- what a sweep asks holds where one is to be made
-pub record CanMakeRoom (ws work : List ℕ) : Type 0 where
-  pub moves : CanMove ws work
+pub record CanMakeRoom (rule : Rule) (ws work : List ℕ) : Type 0 where
+  pub moves : CanMove rule ws work
   pub mark-I : markOf ws 0 ≡ 1 → countOf ws 0 ≡ 0
-  pub sweeps : lowest 1 (bookOf ws .counters) ≤ linksIn ws → CanSweep ws (lowest 1 (bookOf ws .counters)) work
+  pub sweeps : lowest 1 (bookOf ws .counters) ≤ linksIn ws → CanSweep rule ws (lowest 1 (bookOf ws .counters)) work
 
 -- the rules' outcome z; marks are right, and no unused word of the book changes, no word past the stated length, nor one of the work area past H
 pub record MadeRoom (ws ws′ : List ℕ) (z : Inserted) (work work′ : List ℕ) (steps : ℕ) : Type 0 where

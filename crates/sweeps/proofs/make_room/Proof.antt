@@ -1,12 +1,19 @@
 -- One of three: there is room, a packing, a sweep.
-use Rattle.sweeps.proofs.RoomLaws.{counts-I, some-words, room-there, packed-not, can-sweep, swept-room, swept-packs-not, packed-room, packed-packs}
+use Rattle.sweeps.proofs.RoomLaws.{counts-I, some-words, room-there, packed-not, can-sweep, swept-room, packed-room}
 use native.Mathlib.Omega.{arith}
 use borrow.Author.Needs.{needs}
 use Rattle.sweeps.proofs.make_room.Statement.{statement}
 use Rattle.sweeps.proofs.make_room.Tie as tie
 
+-- back to where I is full, and to the start
+abbrev full : tie.After-lowest → tie.Else1
+full c = c .before .before .before .before
+
+abbrev start : tie.After-count → tie.Start
+start c = c .before .before .before .before
+
 count-requires : tie.Need-count-requires
-count-requires c κs = let st = c .before .before .before in counts-I (st .args .a .now) (st .args .work .now) (st .pre)
+count-requires c κs = counts-I _ _ (c .before .before .before .pre)
 
 same-length : tie.Need-same-length
 same-length c = search needs
@@ -14,11 +21,10 @@ same-length c = search needs
 returns : tie.Need-returns
 returns c =
     let co = c .before in
-    let st = co .before .before .before .before in
-    (room-there (st .args .a .now) (st .args .work .now) (st .pre) _ (co .count .ensures) (c .if1 .taken), packed-not (st .args .a .now) (st .args .work .now) (st .pre) _ (co .count .ensures) (c .if1 .taken))
+    (room-there _ _ (start co .pre) _ (co .count .ensures) (c .if1 .taken), packed-not _ _ (start co .pre) _ (co .count .ensures) (c .if1 .taken))
 
 links-requires : tie.Need-links-requires
-links-requires c κs = let st = c .before .before .before .before .before .before in some-words (st .args .a .now) (st .args .work .now) (st .pre)
+links-requires c κs = some-words _ _ (start (c .before .before) .pre)
 
 lowest-requires : tie.Need-lowest-requires
 lowest-requires c κs = search needs
@@ -37,23 +43,15 @@ returns-2 c =
     let pk = c .before .before .before .before in
     let th = pk .before .before .before in
     let lo = th .before in
-    let li = lo .before .before in
-    let el = li .before .before in
-    let co = el .before in
-    let st = co .before .before .before .before in (
-      packed-room (st .args .a .now) (st .args .work .now) (st .pre) _ (co .count .ensures) (omega (arith, el .if1 .left)) _ (li .links .ensures) _ (lo .lowest .ensures) (th .if2 .taken) _ _ _ (pk .pack .ensures),
-      packed-packs (st .args .a .now) (st .args .work .now) (st .pre) _ (co .count .ensures) (omega (arith, el .if1 .left)) _ (li .links .ensures) _ (lo .lowest .ensures) (th .if2 .taken),
-    )
+    let el = full lo in
+    packed-room _ _ (start (el .before) .pre) _ (el .before .count .ensures) (omega (arith, el .if1 .left)) _ (lo .before .before .links .ensures) _ (lo .lowest .ensures) (th .if2 .taken) _ _ _ (pk .pack .ensures)
 
 sweep-requires : tie.Need-sweep-requires
 sweep-requires c κs =
     let th = c .before .before in
     let lo = th .before in
-    let li = lo .before .before in
-    let el = li .before .before in
-    let co = el .before in
-    let st = co .before .before .before .before in
-    can-sweep (st .args .a .now) (st .args .work .now) (st .pre) _ (co .count .ensures) (omega (arith, el .if1 .left)) _ (li .links .ensures) _ (lo .lowest .ensures) (omega (arith, th .if2 .left))
+    let el = full lo in
+    can-sweep _ _ (start (el .before) .pre) _ (el .before .count .ensures) (omega (arith, el .if1 .left)) _ (lo .before .before .links .ensures) _ (lo .lowest .ensures) (omega (arith, th .if2 .left))
 
 same-length-4 : tie.Need-same-length-4
 same-length-4 c = search needs
@@ -66,13 +64,8 @@ returns-3 c =
     let sw = c .before .before .before .before in
     let th = sw .before .before .before in
     let lo = th .before in
-    let li = lo .before .before in
-    let el = li .before .before in
-    let co = el .before in
-    let st = co .before .before .before .before in (
-      swept-room (st .args .a .now) (st .args .work .now) (st .pre) _ (co .count .ensures) (omega (arith, el .if1 .left)) _ (li .links .ensures) _ (lo .lowest .ensures) (omega (arith, th .if2 .left)) _ _ _ (sw .sweep .ensures),
-      swept-packs-not (st .args .a .now) (st .args .work .now) (st .pre) _ (co .count .ensures) (omega (arith, el .if1 .left)) _ (li .links .ensures) _ (lo .lowest .ensures) (omega (arith, th .if2 .left)),
-    )
+    let el = full lo in
+    swept-room _ _ (start (el .before) .pre) _ (el .before .count .ensures) (omega (arith, el .if1 .left)) _ (lo .before .before .links .ensures) _ (lo .lowest .ensures) (omega (arith, th .if2 .left)) _ _ _ (sw .sweep .ensures)
 
 pub make-room-spec : {M : Type 1} → statement M
 make-room-spec =
