@@ -11,7 +11,8 @@ use lib.ListN.{length, getD}
 use Rattle.rules.specs.declared.Answer.{Answer}
 use Rattle.rules.specs.declared.Answer.the-variants.{Done, BookBroken, NoneHeld, OrderBroken}
 use Rattle.rules.specs.Answers.{numberOf, isDone}
-use Rattle.rules.specs.Entries.{wholeWord}
+use Rattle.rules.specs.declared.Rule.{Rule}
+use Rattle.rules.specs.Entries.{keyBy}
 use Rattle.rules.specs.Links.{from, words}
 use Rattle.rules.specs.Tree.{Buffers, Tree, entries, treeOf, linksFrom}
 use Rattle.rules.specs.Merge.{Step, stop, move, mergeStep}
@@ -21,21 +22,23 @@ use Rattle.rules.specs.Queue.{Queue, keyOf, held}
 use Rattle.rules.specs.Order.{inOrder}
 use Rattle.rules.specs.Book.{sound, count}
 use Rattle.rules.specs.Calls.{Lent, Outcome, Check, _else_, firstFailing, refused, unless, arrayChecks, takeChecks, queueOf, withBuffers, theEntry, take, look, heldCall, audit}
+use Rattle.rules.proofs.Sizes.{book-in-words}
 use Rattle.rules.proofs.Tests.{truth}
 use Rattle.rules.proofs.Takes.{hand-steps}
 use Rattle.rules.proofs.BookLaws as rules
 use Rattle.rules.proofs.BookKept.{take-kept, look-kept}
 use Rattle.rules.proofs.Accepted.{Long, MayTake, take-cases}
-use Rattle.buffers.specs.Format.{linksIn, countOf, markOf, markIn, counterIn, many, bookOf, lentOf, buffersOf}
+use Rattle.buffers.specs.Format.{linksIn, ruleIn, countOf, markOf, markIn, counterIn, many, bookOf, lentOf, buffersOf}
 use Rattle.buffers.specs.Post.{Inside, Unused, Kept}
-use Rattle.buffers.proofs.ArrayLaws.{has, kept-links, kept-unused}
+use Rattle.buffers.proofs.ArrayLaws.{kept-links, kept-unused}
+use Rattle.buffers.proofs.KeyLaws.{key-given}
 use Rattle.buffers.proofs.SlotLaws.{some}
 use Rattle.buffers.proofs.RuleLaws.{sound-rules}
 use Rattle.buffers.proofs.Exact.{sound-inside, count-is, mark-is}
 use Rattle.mergers.specs.Fills.{MarksRight, Did}
 use Rattle.takes.specs.Heads.{CanTake, Took, oneIf, headIn}
 use Rattle.queue.specs.Calls.{Called}
-use Rattle.queue.proofs.CheckLaws.{done, not-done, unlike, Holding, early, each-holds, late, shortest, long-says}
+use Rattle.queue.proofs.CheckLaws.{done, not-done, unlike, Holding, early, each-holds, late, long-says}
 use Rattle.takes.proofs.HandLaws.{taken-is, word-of-I}
 use Rattle.queue.proofs.BookLaws.{describes, shaped, marks-right, sound-after}
 
@@ -248,57 +251,63 @@ module _ (ws : List ℕ) (x : Answer) (x-is : x ≡ firstFailing (takeChecks (le
 
     pub take-some-words : 0 < length ws
     unfolding lentOf
-    take-some-words = omega (arith, may .long .shortest, shortest ws)
+    take-some-words = omega (arith, may .long .shortest, book-in-words 1)
 
     -- l is what the call has read as link number
     module _ (l : ℕ) (l-is : l ≡ linksIn ws) where
       pub may-can : CanTake ws l
       may-can = rw l-is can-all
 
-      pub take-called : (ws′ : List ℕ) (found : Bool) (entry steps : ℕ) → Took ws ws′ l (takeOne wholeWord (linksFrom 1 l) (buffersOf ws)) found entry steps → Called ws ws′ (take (lentOf ws)) Done entry steps false
-      unfolding keyOf treeOf queueOf lentOf bookOf
-      take-called ws′ found entry steps took =
-          let z = subst (λ l. Took ws ws′ l (takeOne wholeWord (linksFrom 1 l) (buffersOf ws)) found entry steps) l-is took in
-          let o = take-is ws all-hold in
-          let array = inside ws (may .long) (may .holds) in
-          let after : queueOf (lentOf ws′) ≡ withBuffers (queueOf (lentOf ws)) (taken ws .buffers) = same-queue ws ws′ (taken ws .buffers) array (z .kept) (z .state) in
-          let k = take-kept 7 (queueOf (lentOf ws)) (shaped ws array) (kept-now ws (may .long) (may .holds)) in
-          accepted-called ws ws′ (take (lentOf ws)) (take-accepted ws) entry steps false o
-          refl
-          (the-one found entry (taken ws .out) (z .out) (z .none))
-          (z .count)
-          refl
-          after
-          (sound-still ws′ (z .array) (z .kept) (z .marks) (z .mark-of-I) (z .fewer-in-I) (subst (rules.Kept 7) (sym after) k))
-          (z .kept .long)
-          (λ p h. z .kept .past p (rw (kept-links (z .kept)) at h))
-          (λ p u. kept-unused (z .kept) p (rw (kept-links (z .kept)) at u))
+      -- and rule what it has read as rule: what was done by it is done by the queue's own key
+      module _ {rule : Rule} (rule-is : rule ≡ ruleIn ws) where
+        over : (P : (ℕ → ℕ) → ℕ → Type 0) → P (keyBy rule) l → P (keyOf (queueOf (lentOf ws))) (linksIn ws)
+        over P p = subst (λ k. P k (linksIn ws)) (sym (key-given ws rule-is)) (subst (P (keyBy rule)) l-is p)
 
-      pub look-called : (ws′ : List ℕ) (word steps : ℕ) → Did ws ws′ (linksFrom 1 l) (ready wholeWord (linksFrom 1 l) (buffersOf ws)) steps
-          → word ≡ headIn (mergeStep wholeWord (entries (linksFrom 1 l) (buffersOf ws′)) (insertion (buffersOf ws′))) → Called ws ws′ (look (lentOf ws)) Done word steps false
-      unfolding keyOf treeOf queueOf lentOf bookOf
-      look-called ws′ word steps did said =
-          let d = subst (λ l. Did ws ws′ (linksFrom 1 l) (ready wholeWord (linksFrom 1 l) (buffersOf ws)) steps) l-is did in
-          let w = subst (λ l. word ≡ headIn (mergeStep wholeWord (entries (linksFrom 1 l) (buffersOf ws′)) (insertion (buffersOf ws′)))) l-is said in
-          let o = look-is ws all-hold in
-          let array = inside ws (may .long) (may .holds) in
-          let t = linksFrom 1 (linksIn ws) in
-          let now = ready wholeWord t (buffersOf ws) in
-          let step = mergeStep wholeWord (entries t (buffersOf ws′)) (insertion (buffersOf ws′)) in
-          let same : taken ws ≡ handOut t step now = taken-is ws (linksIn ws) can-all ws′ steps d step refl in
-          let I-word = word-of-I ws (linksIn ws) can-all ws′ steps d in
-          let after : queueOf (lentOf ws′) ≡ withBuffers (queueOf (lentOf ws)) (now .buffers) = same-queue ws ws′ (now .buffers) array (d .kept) (d .state) in
-          let k = look-kept 7 (queueOf (lentOf ws)) (shaped ws array) (kept-now ws (may .long) (may .holds)) in
-          accepted-called ws ws′ (look (lentOf ws)) (look-accepted ws) word steps false o
-          refl
-          (w ∙ sym (head-out t step now) ∙ sym (ap (λ (z : Taken). theEntry (z .out)) same))
-          (d .count ∙ sym (hand-steps t step now) ∙ sym (ap (λ (z : Taken). z .steps) same))
-          refl
-          after
-          (sound-still ws′ (d .array) (d .kept) (d .marks) (ap markIn I-word) (rw I-word (omega arith)) (subst (rules.Kept 7) (sym after) k))
-          (d .kept .long)
-          (λ p h. d .kept .past p (rw (kept-links (d .kept)) at h))
-          (λ p u. kept-unused (d .kept) p (rw (kept-links (d .kept)) at u))
+        pub take-called : (ws′ : List ℕ) (found : Bool) (entry steps : ℕ) → Took ws ws′ l (takeOne (keyBy rule) (linksFrom 1 l) (buffersOf ws)) found entry steps → Called ws ws′ (take (lentOf ws)) Done entry steps false
+        unfolding treeOf queueOf lentOf bookOf
+        take-called ws′ found entry steps took =
+            let z = over (λ k l. Took ws ws′ l (takeOne k (linksFrom 1 l) (buffersOf ws)) found entry steps) took in
+            let o = take-is ws all-hold in
+            let array = inside ws (may .long) (may .holds) in
+            let after : queueOf (lentOf ws′) ≡ withBuffers (queueOf (lentOf ws)) (taken ws .buffers) = same-queue ws ws′ (taken ws .buffers) array (z .kept) (z .state) in
+            let k = take-kept 7 (queueOf (lentOf ws)) (shaped ws array) (kept-now ws (may .long) (may .holds)) in
+            accepted-called ws ws′ (take (lentOf ws)) (take-accepted ws) entry steps false o
+            refl
+            (the-one found entry (taken ws .out) (z .out) (z .none))
+            (z .count)
+            refl
+            after
+            (sound-still ws′ (z .array) (z .kept) (z .marks) (z .mark-of-I) (z .fewer-in-I) (subst (rules.Kept 7) (sym after) k))
+            (z .kept .long)
+            (λ p h. z .kept .past p (rw (kept-links (z .kept)) at h))
+            (λ p u. kept-unused (z .kept) p (rw (kept-links (z .kept)) at u))
+
+        pub look-called : (ws′ : List ℕ) (word steps : ℕ) → Did ws ws′ (linksFrom 1 l) (ready (keyBy rule) (linksFrom 1 l) (buffersOf ws)) steps
+            → word ≡ headIn (mergeStep (keyBy rule) (entries (linksFrom 1 l) (buffersOf ws′)) (insertion (buffersOf ws′))) → Called ws ws′ (look (lentOf ws)) Done word steps false
+        unfolding treeOf queueOf lentOf bookOf
+        look-called ws′ word steps did said =
+            let d = over (λ k l. Did ws ws′ (linksFrom 1 l) (ready k (linksFrom 1 l) (buffersOf ws)) steps) did in
+            let w = over (λ k l. word ≡ headIn (mergeStep k (entries (linksFrom 1 l) (buffersOf ws′)) (insertion (buffersOf ws′)))) said in
+            let o = look-is ws all-hold in
+            let array = inside ws (may .long) (may .holds) in
+            let t = linksFrom 1 (linksIn ws) in
+            let key = keyOf (queueOf (lentOf ws)) in
+            let now = ready key t (buffersOf ws) in
+            let step = mergeStep key (entries t (buffersOf ws′)) (insertion (buffersOf ws′)) in
+            let same : taken ws ≡ handOut t step now = taken-is key ws (linksIn ws) can-all ws′ steps d step refl in
+            let I-word = word-of-I key ws (linksIn ws) can-all ws′ steps d in
+            let after : queueOf (lentOf ws′) ≡ withBuffers (queueOf (lentOf ws)) (now .buffers) = same-queue ws ws′ (now .buffers) array (d .kept) (d .state) in
+            let k = look-kept 7 (queueOf (lentOf ws)) (shaped ws array) (kept-now ws (may .long) (may .holds)) in
+            accepted-called ws ws′ (look (lentOf ws)) (look-accepted ws) word steps false o
+            refl
+            (w ∙ sym (head-out t step now) ∙ sym (ap (λ (z : Taken). theEntry (z .out)) same))
+            (d .count ∙ sym (hand-steps t step now) ∙ sym (ap (λ (z : Taken). z .steps) same))
+            refl
+            after
+            (sound-still ws′ (d .array) (d .kept) (d .marks) (ap markIn I-word) (rw I-word (omega arith)) (subst (rules.Kept 7) (sym after) k))
+            (d .kept .long)
+            (λ p h. d .kept .past p (rw (kept-links (d .kept)) at h))
+            (λ p u. kept-unused (d .kept) p (rw (kept-links (d .kept)) at u))
 
 -- ---- held and audit, and the checks of take and look
 
@@ -361,10 +370,12 @@ module _ (ws : List ℕ) (x : Answer) (x-is : x ≡ common ws) where
           go zero d = absurd (d refl)
           go (suc m) d = le-leb 1 (suc m) (omega arith)
 
-    module _ (t : Bool) (t-is : t ≡ inOrder wholeWord (treeOf (linksIn ws)) (buffersOf ws)) where
+    module _ {rule : Rule} (rule-is : rule ≡ ruleIn ws) (t : Bool) (t-is : t ≡ inOrder (keyBy rule) (treeOf (linksIn ws)) (buffersOf ws)) where
       audit-answer : firstFailing audit-checks ≡ elim t [ true ↦ Done | false ↦ OrderBroken ]
-      unfolding firstFailing keyOf queueOf lentOf bookOf
-      audit-answer = passed-all ws x x-is none-fails ((in-order else OrderBroken) ∷ []) ∙ ap (λ b. firstFailing ((b else OrderBroken) ∷ [])) (sym t-is)
+      unfolding firstFailing queueOf lentOf bookOf
+      audit-answer =
+          let by-rule : t ≡ in-order = t-is ∙ ap (λ k. inOrder k (treeOf (linksIn ws)) (buffersOf ws)) (sym (key-given ws rule-is)) in
+          passed-all ws x x-is none-fails ((in-order else OrderBroken) ∷ []) ∙ ap (λ b. firstFailing ((b else OrderBroken) ∷ [])) (sym by-rule)
 
       pub audit-called : t ≡ true → Called ws ws (audit (lentOf ws)) Done 0 0 false
       unfolding audit lentOf

@@ -16,11 +16,11 @@ use Rattle.rules.specs.Queue.{held}
 use Rattle.rules.specs.Book.{isLinkNumber, sound}
 use Rattle.rules.specs.Calls.{firstFailing, arrayChecks, queueOf, Check, _else_}
 use Rattle.rules.proofs.Tests.{truth}
-use Rattle.rules.proofs.Table.{words-at}
+use Rattle.rules.proofs.Sizes.{book-in-words}
 use Rattle.rules.proofs.BookLaws.{number-is}
 use Rattle.rules.proofs.Accepted.{Long}
 use Rattle.buffers.specs.Format.{linksIn, bookOf, lentOf}
-use Rattle.buffers.specs.Weights.{HasBook, heldIfSound}
+use Rattle.buffers.specs.Weights.{broken, HasBook, heldIfSound}
 use Rattle.buffers.proofs.RuleLaws.{link-number}
 use Rattle.buffers.proofs.Exact.{sound-inside, below-broken}
 use Rattle.queue.proofs.BookLaws.{weighed-held}
@@ -87,25 +87,22 @@ module _ (ws : List ℕ) where
   unfolding firstFailing arrayChecks lentOf bookOf
   answer-now t u v p q r = λ i. firstFailing ((p i else ArrayShort) ∷ (q i else BookBroken) ∷ (r i else ArrayShort) ∷ [])
 
-  pub shortest : words 1 ≡ 296
-  shortest = sym (words-at 1 tt refl tt)
+  pub too-short : length ws < words 1 → ArrayShort ≡ array
+  too-short h = sym (answer-now false (isLinkNumber links) (leb (words links) (length ws)) (lt-leb (words 1) (length ws) h) refl refl)
 
-  pub too-short : length ws < 296 → ArrayShort ≡ array
-  too-short h = sym (answer-now false (isLinkNumber links) (leb (words links) (length ws)) (lt-leb (words 1) (length ws) (omega (arith, shortest))) refl refl)
-
-  module _ (long : 296 ≤ length ws) where
+  module _ (long : words 1 ≤ length ws) where
     long-is : leb (words 1) (length ws) ≡ true
-    long-is = le-leb (words 1) (length ws) (omega (arith, shortest))
+    long-is = le-leb (words 1) (length ws) long
 
     pub no-link : links < 1 → BookBroken ≡ array
     unfolding isLinkNumber
     no-link h = sym (answer-now true false (leb (words links) (length ws)) long-is (rw (lt-leb 1 links h)) refl)
 
-    pub many-links : 4 < links → BookBroken ≡ array
-    unfolding isLinkNumber mostLinks
-    many-links h = sym (answer-now true false (leb (words links) (length ws)) long-is (let low : 1 ≤ links = omega arith in rw (le-leb 1 links low, lt-leb links 4 h)) refl)
+    pub many-links : mostLinks < links → BookBroken ≡ array
+    unfolding isLinkNumber
+    many-links h = sym (answer-now true false (leb (words links) (length ws)) long-is (let low : 1 ≤ links = omega arith in rw (le-leb 1 links low, lt-leb links mostLinks h)) refl)
 
-    module _ (low : 1 ≤ links) (high : links ≤ 4) where
+    module _ (low : 1 ≤ links) (high : links ≤ mostLinks) where
       link : LinkNumber links
       link = record { low = low; high = high }
 
@@ -140,11 +137,11 @@ module _ (ws : List ℕ) where
 
       pub has-words : 0 < length ws
       unfolding lentOf
-      has-words = omega (arith, array-long .shortest, shortest)
+      has-words = omega (arith, array-long .shortest, book-in-words 1)
 
       pub has-book : HasBook ws
       unfolding lentOf
-      has-book = record { long = omega (arith, array-long .shortest, shortest) }
+      has-book = record { long = omega (arith, array-long .shortest, book-in-words 1) }
 
       pub has-link : LinkNumber links
       unfolding lentOf bookOf
@@ -162,7 +159,7 @@ module _ (ws : List ℕ) where
       book-wrong e = book-decides false e
 
       -- n is what the book test hands back
-      pub book-held : (n : ℕ) → n ≡ heldIfSound (bookOf ws) → n < 65536 → n ≡ held (queueOf (lentOf ws))
+      pub book-held : (n : ℕ) → n ≡ heldIfSound (bookOf ws) → n < broken → n ≡ held (queueOf (lentOf ws))
       unfolding lentOf bookOf
       book-held n n-is less =
           let right = below-broken ws n n-is less in

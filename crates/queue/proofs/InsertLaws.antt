@@ -8,13 +8,14 @@ use native.Mathlib.Omega.{arith}
 use lib.Dec.{T, T-not}
 use lib.ListN.{length, set}
 use lib.Seq.{getD-set-other}
+use Rattle.rules.specs.declared.Rule.{Rule}
 use Rattle.rules.specs.declared.Answer.{Answer}
 use Rattle.rules.specs.declared.Answer.the-variants.{Done}
 use Rattle.rules.specs.Answers.{numberOf, isDone}
-use Rattle.rules.specs.Entries.{wholeWord}
+use Rattle.rules.specs.Entries.{keyBy}
 use Rattle.rules.specs.Links.{k, numberOfS, bufferCount, words}
 use Rattle.rules.specs.Tree.{linksFrom, treeOf}
-use Rattle.rules.specs.Queue.{Queue, keyOf, counter, held}
+use Rattle.rules.specs.Queue.{Queue, counter, held}
 use Rattle.rules.specs.Book.{sound}
 use Rattle.rules.specs.Insert.{placed, lowest, Inserted, packed, entered, makeRoom, inserted}
 use Rattle.rules.specs.Calls.{Outcome, queueOf, withBuffers, firstFailing, insertChecks, refused, insert}
@@ -28,9 +29,10 @@ use Rattle.rules.proofs.BookKept.{Shaped}
 use Rattle.rules.proofs.RestLaws.{has-place}
 use Rattle.rules.proofs.InsertLaws.{now-kept, inserted-kept}
 use Rattle.rules.proofs.Accepted.{MayInsert, insert-call-cases}
-use Rattle.buffers.specs.Format.{linksIn, counterIn, markIn, many, bookOf, lentOf, bufferOf, buffersOf}
+use Rattle.buffers.specs.Format.{linksIn, counterIn, ruleIn, markIn, many, bookOf, lentOf, bufferOf, buffersOf}
 use Rattle.buffers.specs.Post.{Inside, Has, Now, Kept, Word}
 use Rattle.buffers.proofs.ArrayLaws.{has, each-at, buffer-length, buffers-at, only-word, only-kept, kept-links, kept-unused}
+use Rattle.buffers.proofs.KeyLaws.{key-given, rule-kept}
 use Rattle.mergers.proofs.FillLaws.{marks-less}
 use Rattle.paths.specs.Placing.{Placing}
 use Rattle.paths.proofs.SlotsLaws.{placing}
@@ -44,7 +46,7 @@ use Rattle.queue.proofs.CallLaws.{done-is, accepted-is, refusal-called,
 
 -- ---- where the book rules hold but for I, a sweep may be made to the lowest link
 
-module _ (ws work : List ℕ) (moves : CanMove ws work) (kept : rules.Kept 8 (queueOf (lentOf ws))) where
+module _ {rule : Rule} (ws work : List ℕ) (moves : CanMove rule ws work) (kept : rules.Kept 8 (queueOf (lentOf ws))) where
   abbrev p : Queue
   p = queueOf (lentOf ws)
 
@@ -77,7 +79,7 @@ module _ (ws work : List ℕ) (moves : CanMove ws work) (kept : rules.Kept 8 (qu
     unfolding queueOf lentOf
     store-empty = rw read at (sym (buffers-at ws (numberOfS i (counter p i)) store-below) ∙ kept .each i low there-q .unused (counter p i) (omega arith) unspent)
 
-    pub lowest-sweeps : CanSweep ws i work
+    pub lowest-sweeps : CanSweep rule ws i work
     lowest-sweeps =
         record {
           moves = moves;
@@ -141,7 +143,7 @@ module _ (ws work : List ℕ) (entry : ℕ) where
     unfolding queueOf lentOf
     places = placing ws array-in (omega (arith, kept-seven .few, ap length (insertion-is ws (linksIn ws) can), buffer-length ws 0 of-I))
 
-    module _ (ws₁ : List ℕ) (n : Now ws ws₁ 0 (placed wholeWord entry (bufferOf ws 0))) (w : Word ws₁ 0 0 0) where
+    module _ {rule : Rule} (rule-is : rule ≡ ruleIn ws) (ws₁ : List ℕ) (n : Now ws ws₁ 0 (placed (keyBy rule) entry (bufferOf ws 0))) (w : Word ws₁ 0 0 0) where
       kept₁ : Kept ws ws₁
       kept₁ = only-kept ws ws₁ 0 of-I (n .only)
 
@@ -149,10 +151,10 @@ module _ (ws work : List ℕ) (entry : ℕ) where
       links₁ = kept-links kept₁
 
       queue₁ : queueOf (lentOf ws₁) ≡ entered entry before
-      unfolding entered keyOf queueOf lentOf bookOf withBuffers
+      unfolding entered queueOf lentOf bookOf withBuffers
       queue₁ =
-          same-queue ws ws₁ (set (buffersOf ws) 0 (placed wholeWord entry (bufferOf ws 0))) array-in kept₁ (n .state)
-          ∙ ap (λ es. withBuffers (queueOf (lentOf ws)) (set (buffersOf ws) 0 (placed wholeWord entry es))) (sym (insertion-is ws (linksIn ws) can))
+          same-queue ws ws₁ (set (buffersOf ws) 0 (placed (keyBy rule) entry (bufferOf ws 0))) array-in kept₁ (n .state)
+          ∙ (λ x. withBuffers (queueOf (lentOf ws)) (set (buffersOf ws) 0 (placed (sym (key-given ws rule-is) x) entry (sym (insertion-is ws (linksIn ws) can) x))))
 
       kept-eight : rules.Kept 8 (queueOf (lentOf ws₁))
       kept-eight = subst (rules.Kept 8) (sym queue₁) (now-kept entry before (shaped ws array-in) kept-seven (may .not-full))
@@ -168,20 +170,21 @@ module _ (ws work : List ℕ) (entry : ℕ) where
             links = omega arith;
             marks = rw links₁ (
                 marks-less (linksFrom 1 (linksIn ws)) ws ws₁ (λ m s. ap markIn (only-word ws ws₁ 0 of-I (n .only) m (other s .1) (omega (arith, other s .0))))
-                (λ m s. rw (n .state, getD-set-other (buffersOf ws) 0 m (placed wholeWord entry (bufferOf ws 0)) [] (omega (arith, other s .0))) (omega arith)) (can .marks)
+                (λ m s. rw (n .state, getD-set-other (buffersOf ws) 0 m (placed (keyBy rule) entry (bufferOf ws 0)) [] (omega (arith, other s .0))) (omega arith)) (can .marks)
                 );
           }
 
-      moves₁ : CanMove ws₁ work
+      moves₁ : CanMove rule ws₁ work
       unfolding held queueOf lentOf bookOf
       moves₁ =
           record {
+            ruled = rule-is ∙ sym (rule-kept kept₁);
             can = can₁;
             few = omega (arith, held-split (queueOf (lentOf ws₁)), kept-eight .at-most);
             room = rw links₁ (may .room);
           }
 
-      pub makes-room : CanMakeRoom ws₁ work
+      pub makes-room : CanMakeRoom rule ws₁ work
       unfolding queueOf lentOf
       makes-room =
           record {

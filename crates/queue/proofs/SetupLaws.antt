@@ -11,7 +11,7 @@ use lib.ListN.{length, take, drop, replicate, getD}
 use Rattle.rules.specs.declared.Answer.{Answer}
 use Rattle.rules.specs.declared.Answer.the-variants.{Done, NoSuchLinks, ArrayShort}
 use Rattle.rules.specs.Answers.{isDone}
-use Rattle.rules.specs.Links.{from, bufferCount, bookWords, words, mostLinks, LinkNumber}
+use Rattle.rules.specs.Links.{from, bufferCount, words, mostLinks, LinkNumber}
 use Rattle.rules.specs.Tree.{treeOf}
 use Rattle.rules.specs.Queue.{fresh}
 use Rattle.rules.specs.Book.{isLinkNumber, sound}
@@ -94,9 +94,9 @@ module _ (ws : List ℕ) (links : ℕ) where
   unfolding isLinkNumber
   too-few h = not-a-number (rw (lt-leb 1 links h))
 
-  pub too-many : 4 < links → Called ws ws (setup links (lentOf ws)) NoSuchLinks 0 0 false
-  unfolding isLinkNumber mostLinks
-  too-many h = not-a-number (let low : 1 ≤ links = omega arith in rw (le-leb 1 links low, lt-leb links 4 h))
+  pub too-many : mostLinks < links → Called ws ws (setup links (lentOf ws)) NoSuchLinks 0 0 false
+  unfolding isLinkNumber
+  too-many h = not-a-number (let low : 1 ≤ links = omega arith in rw (le-leb 1 links low, lt-leb links mostLinks h))
 
   module _ (link : LinkNumber links) where
     -- "2 | array too short"
@@ -119,5 +119,4 @@ module _ (ws : List ℕ) (links : ℕ) where
 
 -- "slots keep their words"
 pub slots-kept : (ws ws′ : List ℕ) (links : ℕ) → LinkNumber links → Begun ws ws′ links → SlotsKept ws ws′
-unfolding bookWords
 slots-kept ws ws′ links link b p h = b .behind p (omega (arith, few link))

@@ -13,18 +13,18 @@ ghost use Rattle.queue.specs.Calls.{Called, SlotsKept, WorkKept};
 use rules::Answer;
 use rules::Link;
 
-// The array's checks, that every call but setup makes first: 2 (296 words), 4 (link number), 2 (its words).
+// The array's checks, that every call but setup makes first: 2 (one link's words), 4 (link number), 2 (its words).
 fn array_checked(a: &[u64]) -> Answer
     ensures { λ r. ⌜ r ≡ firstFailing (arrayChecks (lentOf (now (a .entry))) []) ⌝ }
 {
-    if a.len() < 296 {
+    if a.len() < Link::at(1).words() {
         return Answer::ArrayShort;
     }
     let l = buffers::counters::links(a);
     if l < 1 {
         return Answer::BookBroken;
     }
-    if 4 < l {
+    if (Link::MOST as u64) < l {
         return Answer::BookBroken;
     }
     if a.len() < Link::at(l as usize).words() {
@@ -95,7 +95,7 @@ pub fn setup(a: &mut [u64], links: u64) -> Outcome
     if links < 1 {
         return refusal(Answer::NoSuchLinks);
     }
-    if 4 < links {
+    if (Link::MOST as u64) < links {
         return refusal(Answer::NoSuchLinks);
     }
     if a.len() < Link::at(links as usize).words() {
@@ -133,8 +133,9 @@ pub fn take(a: &mut [u64]) -> Outcome
     if rules::number_of(found) != 0 {
         return refusal(found);
     }
+    let rule = buffers::counters::rule(a);
     let links = buffers::counters::links(a) as usize;
-    let t = takes::take_one(a, links);
+    let t = takes::take_one(rule, a, links);
     Outcome {
         answer: Answer::Done,
         word: t.entry,
@@ -151,9 +152,10 @@ pub fn look(a: &mut [u64]) -> Outcome
     if rules::number_of(found) != 0 {
         return refusal(found);
     }
+    let rule = buffers::counters::rule(a);
     let links = buffers::counters::links(a) as usize;
-    let steps = takes::make_ready(a, links);
-    let word = takes::head_now(a, links);
+    let steps = takes::make_ready(rule, a, links);
+    let word = takes::head_now(rule, a, links);
     Outcome {
         answer: Answer::Done,
         word,
@@ -187,7 +189,8 @@ pub fn audit(a: &[u64]) -> Outcome
     if rules::number_of(found) != 0 {
         return refusal(found);
     }
-    if order::in_order(a) {
+    let rule = buffers::counters::rule(a);
+    if order::in_order(rule, a) {
         return Outcome {
             answer: Answer::Done,
             word: 0,
@@ -233,8 +236,9 @@ pub fn insert(a: &mut [u64], work: &mut [u64], entry: u64) -> Outcome
     if rules::number_of(found) != 0 {
         return refusal(found);
     }
-    paths::place_entry(a, entry);
-    let made = sweeps::make_room(a, work);
+    let rule = buffers::counters::rule(a);
+    paths::place_entry(rule, a, entry);
+    let made = sweeps::make_room(rule, a, work);
     Outcome {
         answer: Answer::Done,
         word: 0,

@@ -34,9 +34,12 @@ returns c =
       work-refused ws (st .args .work .now) (st .args .entry) _,
     )
 
+rule-requires : tie.Need-rule-requires
+rule-requires c κs = search needs
+
 place-entry-requires : tie.Need-place-entry-requires
 place-entry-requires c κs =
-    let el = c .before in
+    let el = c .before .before .before in
     let no = el .before in
     let ch = no .before in
     let st = ch .before .before .before .before in
@@ -45,11 +48,12 @@ place-entry-requires c κs =
 make-room-requires : tie.Need-make-room-requires
 make-room-requires c κs =
     let pl = c .before .before .before .before in
-    let el = pl .before .before in
+    let ru = pl .before .before in
+    let el = ru .before .before in
     let no = el .before in
     let ch = no .before in
     let st = ch .before .before .before .before in
-    makes-room (st .args .a .now) (st .args .work .now) (st .args .entry) (ch .checked-for-insert .result) (ch .checked-for-insert .ensures) (sym (no .number-of .ensures) ∙ el .if1 .left) _ (pl .place-entry .ensures .0) (pl .place-entry .ensures .1)
+    makes-room (st .args .a .now) (st .args .work .now) (st .args .entry) (ch .checked-for-insert .result) (ch .checked-for-insert .ensures) (sym (no .number-of .ensures) ∙ el .if1 .left) (ru .rule .ensures) _ (pl .place-entry .ensures .0) (pl .place-entry .ensures .1)
 
 same-length-2 : tie.Need-same-length-2
 same-length-2 c = search needs
@@ -61,12 +65,13 @@ returns-2 : tie.Need-returns-2
 returns-2 c =
     let ma = c .before .before .before .before in
     let put = ma .before .before .before .before .before in
-    let done = put .before .before in
+    let ru = put .before .before in
+    let done = ru .before .before in
     let no = done .before in
     let ch = no .before in
     let st = ch .before .before .before .before in (
-      insert-called (st .args .a .now) (st .args .work .now) (st .args .entry) (ch .checked-for-insert .result) (ch .checked-for-insert .ensures) (sym (no .number-of .ensures) ∙ done .if1 .left) _ (put .place-entry .ensures .0) (put .place-entry .ensures .1) _ _ _ _ (ma .make-room .ensures .0) (ma .make-room .ensures .1),
-      work-kept (st .args .a .now) (st .args .work .now) (st .args .entry) (ch .checked-for-insert .result) (ch .checked-for-insert .ensures) (sym (no .number-of .ensures) ∙ done .if1 .left) _ (put .place-entry .ensures .0) (put .place-entry .ensures .1) _ _ _ _ (ma .make-room .ensures .0) (ma .make-room .ensures .1),
+      insert-called (st .args .a .now) (st .args .work .now) (st .args .entry) (ch .checked-for-insert .result) (ch .checked-for-insert .ensures) (sym (no .number-of .ensures) ∙ done .if1 .left) (ru .rule .ensures) _ (put .place-entry .ensures .0) (put .place-entry .ensures .1) _ _ _ _ (ma .make-room .ensures .0) (ma .make-room .ensures .1),
+      work-kept (st .args .a .now) (st .args .work .now) (st .args .entry) (ch .checked-for-insert .result) (ch .checked-for-insert .ensures) (sym (no .number-of .ensures) ∙ done .if1 .left) (ru .rule .ensures) _ (put .place-entry .ensures .0) (put .place-entry .ensures .1) _ _ _ _ (ma .make-room .ensures .0) (ma .make-room .ensures .1),
     )
 
 pub insert-spec : {M : Type 1} → statement M
@@ -78,6 +83,7 @@ insert-spec =
     refusal-requires
     same-length
     returns
+    rule-requires
     place-entry-requires
     make-room-requires
     same-length-2

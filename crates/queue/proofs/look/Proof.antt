@@ -1,5 +1,7 @@
 -- `look` says what the rules' look does, or gives the first failing check.
 use mathlib.Core.Path.{_≡_, sym, _∙_}
+use mathlib.Core.List.{List}
+use Prim.Native.Nat.{ℕ}
 use Rattle.rules.specs.Answers.{numberOf}
 use Rattle.rules.specs.Calls.{look}
 use Rattle.buffers.specs.Format.{lentOf}
@@ -35,20 +37,27 @@ returns c =
 none : (c : tie.Else1) → numberOf (c .before .before .checked-for-take .result) ≡ 0
 none c = sym (c .before .number-of .ensures) ∙ c .if1 .left
 
+rule-requires : tie.Need-rule-requires
+rule-requires c κs = search needs
+
+abbrev passed : tie.After-rule → tie.Else1
+passed ru = ru .before .before
+
+abbrev array : tie.Else1 → List ℕ
+array el = el .before .before .before .before .before .args .a .now
+
 links-requires : tie.Need-links-requires
 links-requires c κs =
-    let el = c .before in
+    let el = passed (c .before) in
     let x = el .before .before in
-    let ws = x .before .before .before .args .a .now in
-    take-some-words ws (x .checked-for-take .result) (x .checked-for-take .ensures) (none el)
+    take-some-words (array el) (x .checked-for-take .result) (x .checked-for-take .ensures) (none el)
 
 -- where the link number is read, a take can be made
-can : (li : tie.After-links) → CanTake (li .before .before .before .before .before .before .before .args .a .now) (li .links .result)
+can : (li : tie.After-links) → CanTake (array (passed (li .before .before))) (li .links .result)
 can li =
-    let el = li .before .before in
+    let el = passed (li .before .before) in
     let x = el .before .before in
-    let ws = x .before .before .before .args .a .now in
-    may-can ws (x .checked-for-take .result) (x .checked-for-take .ensures) (none el) _ (li .links .ensures)
+    may-can (array el) (x .checked-for-take .result) (x .checked-for-take .ensures) (none el) _ (li .links .ensures)
 
 make-ready-requires : tie.Need-make-ready-requires
 make-ready-requires c κs = can (c .before)
@@ -56,7 +65,7 @@ make-ready-requires c κs = can (c .before)
 head-now-requires : tie.Need-head-now-requires
 head-now-requires c κs =
     let ma = c .before .before .before in
-    can-now _ _ (can (ma .before .before)) _ _ (ma .make-ready .ensures)
+    can-now _ _ _ (can (ma .before .before)) _ _ (ma .make-ready .ensures)
 
 same-length-2 : tie.Need-same-length-2
 same-length-2 c = search needs
@@ -65,10 +74,10 @@ returns-2 : tie.Need-returns-2
 returns-2 c =
     let ma = c .before .before .before .before in
     let li = ma .before .before in
-    let el = li .before .before in
+    let ru = li .before .before in
+    let el = passed ru in
     let x = el .before .before in
-    let ws = x .before .before .before .args .a .now in
-    look-called ws (x .checked-for-take .result) (x .checked-for-take .ensures) (none el) _ (li .links .ensures) _ _ _ (ma .make-ready .ensures) (c .head-now .ensures)
+    look-called (array el) (x .checked-for-take .result) (x .checked-for-take .ensures) (none el) _ (li .links .ensures) (ru .rule .ensures) _ _ _ (ma .make-ready .ensures) (c .head-now .ensures)
 
 pub look-spec : {M : Type 1} → statement M
 look-spec =
@@ -79,6 +88,7 @@ look-spec =
     refusal-requires
     same-length
     returns
+    rule-requires
     links-requires
     make-ready-requires
     head-now-requires

@@ -33,9 +33,12 @@ returns c =
 none : (c : tie.Else1) → numberOf (c .before .before .checked-for-take .result) ≡ 0
 none c = sym (c .before .number-of .ensures) ∙ c .if1 .left
 
+rule-requires : tie.Need-rule-requires
+rule-requires c κs = search needs
+
 links-requires : tie.Need-links-requires
 links-requires c κs =
-    let el = c .before in
+    let el = c .before .before .before in
     let x = el .before .before in
     let ws = x .before .before .before .args .a .now in
     take-some-words ws (x .checked-for-take .result) (x .checked-for-take .ensures) (none el)
@@ -43,7 +46,8 @@ links-requires c κs =
 take-one-requires : tie.Need-take-one-requires
 take-one-requires c κs =
     let li = c .before in
-    let el = li .before .before in
+    let ru = li .before .before in
+    let el = ru .before .before in
     let x = el .before .before in
     let ws = x .before .before .before .args .a .now in
     may-can ws (x .checked-for-take .result) (x .checked-for-take .ensures) (none el) _ (li .links .ensures)
@@ -55,10 +59,11 @@ returns-2 : tie.Need-returns-2
 returns-2 c =
     let ta = c .before .before in
     let li = ta .before .before in
-    let el = li .before .before in
+    let ru = li .before .before in
+    let el = ru .before .before in
     let x = el .before .before in
     let ws = x .before .before .before .args .a .now in
-    take-called ws (x .checked-for-take .result) (x .checked-for-take .ensures) (none el) _ (li .links .ensures) _ _ _ _ (ta .take-one .ensures)
+    take-called ws (x .checked-for-take .result) (x .checked-for-take .ensures) (none el) _ (li .links .ensures) (ru .rule .ensures) _ _ _ _ (ta .take-one .ensures)
 
 pub take-spec : {M : Type 1} → statement M
 take-spec =
@@ -69,6 +74,7 @@ take-spec =
     refusal-requires
     same-length
     returns
+    rule-requires
     links-requires
     take-one-requires
     same-length-2
