@@ -6,12 +6,12 @@ use mathlib.Core.Bool.{true, false}
 use mathlib.Core.List.{List}
 use native.Mathlib.Omega.{arith}
 use native.Mathlib.Decide.{decLt}
-use lib.Dec.{T, eqb, lit≤}
+use lib.Dec.{T, eqb}
 use Rattle.rules.specs.declared.Answer.{Answer}
 use Rattle.rules.specs.declared.Answer.the-variants.{Done, WorkShort, Full, NoneHeld, DoorAbove}
 use Rattle.rules.specs.Answers.{isDone}
 use Rattle.rules.specs.Entries.{door}
-use Rattle.rules.specs.Links.{most, words}
+use Rattle.rules.specs.Links.{mostLinks, most, words}
 use Rattle.rules.specs.Tree.{treeOf}
 use Rattle.rules.specs.Take.{insertion}
 use Rattle.rules.specs.Queue.{Queue, keyOf, held}
@@ -29,7 +29,9 @@ use Rattle.queue.proofs.AgreeLaws.{the-answer}
 use Rattle.demands.specs.Histories.{Call, Made, accepted, History, since, links, putIn, takenOut, inserts, takes, times, StillHeld}
 use Rattle.demands.specs.Exact.{Enough, WorkEnough, Sound, Answers, work-short, door-above, full, insert-done, take-done, look-done, held-done, audit-done, none-to-take, none-to-see}
 use Rattle.rules.proofs.Tests.{truth}
-use Rattle.rules.proofs.BoundLaws.{of-four}
+use Rattle.rules.specs.Tests.{every}
+use Rattle.rules.proofs.Table.{at-least}
+use Rattle.rules.proofs.BoundLaws.{is-link}
 use Rattle.queue.proofs.CheckLaws.{unlike}
 use Rattle.demands.proofs.CallLaws.{timesHeld, held-word}
 use Rattle.demands.proofs.HistoryLaws.{stands}
@@ -47,9 +49,9 @@ module _ (ws ws′ : List ℕ) (c : Call) (made : Made ws c ws′) where
 
 -- ---- in a history
 
-enough-words : (l : ℕ) → T (isLinkNumber l) → (1 ≤ l) × (l ≤ 4) × (296 ≤ words l)
-unfolding words
-enough-words = of-four (λ l. (1 ≤ l) × (l ≤ 4) × (296 ≤ words l)) (lit≤ tt, lit≤ tt, lit≤ tt) (lit≤ tt, lit≤ tt, lit≤ tt) (lit≤ tt, lit≤ tt, lit≤ tt) (lit≤ tt, lit≤ tt, lit≤ tt)
+enough-words : (l : ℕ) → T (isLinkNumber l) → (1 ≤ l) × (l ≤ mostLinks) × (words 1 ≤ words l)
+unfolding every words
+enough-words l number = let link = is-link l number in (link .low, link .high, at-least words (words 1) tt link)
 
 -- nothing held, and nothing weighs
 none-times : (q : Queue) → held q ≡ 0 → (v : ℕ) → timesHeld v q ≡ 0
@@ -81,7 +83,7 @@ module _ {cs : List Call} {ws : List ℕ} (h : History cs ws) where
   enough =
       let s = stands h in
       let e = enough-words (links cs) (s .number) in
-      rw same-links (record { shortest = omega (arith, e .2, s .long); one = e .0; four = e .1; its-own = s .long })
+      rw same-links (record { shortest = omega (arith, e .2, s .long); one = e .0; few = e .1; its-own = s .long })
 
   pub book-sound : (work : ℕ) (order : Order) → WorkEnough work order (lentOf ws) → Sound work order (lentOf ws)
   unfolding lentOf

@@ -6,7 +6,7 @@ use lib.ListN.{length, drop}
 use mathlib.Core.Bool.{true}
 use mathlib.Core.List.{List, [], _∷_, _++_}
 use Rattle.rules.proofs.History.{since-fine, packings-bound}
-use Rattle.rules.proofs.BoundLaws.{few-steps, one-to-four}
+use Rattle.rules.proofs.BoundLaws.{few-steps, is-link}
 use Rattle.rules.specs.Calls.{queueOf}
 use Rattle.buffers.specs.Format.{linksIn, lentOf}
 use Rattle.demands.specs.Histories.{Call, Made, History, Sequence, none, more, hasSetup, fromSetup, since, links, packings, meanwhile}
@@ -90,8 +90,8 @@ ends-so P cs calls has so = from-last P cs (so (from-setup calls has))
 
 held-so : {ws : List ℕ} (cs : List Call) → History cs ws → Held (since cs) (links cs)
 held-so cs h =
-    let number = one-to-four (links cs) (stands h .number) in
-    record { no-more = no-more h; exactly = all-out h; one = number .0; four = number .1; at-most = at-most h }
+    let number = is-link (links cs) (stands h .number) in
+    record { no-more = no-more h; exactly = all-out h; one = number .low; few = number .high; at-most = at-most h }
 
 pub sequence-held : {ws ws′ : List ℕ} (cs : List Call) → Sequence ws cs ws′ → hasSetup cs ≡ true → Held (since cs) (links cs)
 sequence-held cs calls has = ends-so Held cs calls has (held-so (fromSetup cs))

@@ -14,7 +14,6 @@ use Rattle.rules.specs.Links.{words}
 use Rattle.rules.specs.Book.{isLinkNumber}
 use Rattle.rules.specs.Tree.{treeOf}
 use Rattle.rules.specs.Take.{insertion, takeOne}
-use Rattle.rules.specs.Entries.{wholeWord}
 use Rattle.rules.specs.Queue.{Queue, keyOf, held, fresh}
 use Rattle.rules.specs.Order.{inOrder}
 use Rattle.rules.specs.Calls.{Lent, Outcome, queueOf, refused, theEntry, withBuffers, setup, insert, take, look, heldCall, audit}
@@ -109,10 +108,10 @@ module _ {links : ℕ} (a : Lent) (fine : Fine links (queueOf a)) where
 abbrev pub timesHeld : ℕ → Queue → ℕ
 timesHeld v q = weightOf (λ e. oneIf (eqb v e)) q
 
--- a smallest entry of those held
+-- an entry of those held whose key is the smallest
 pub record LeastHeld (q : Queue) (e : ℕ) : Type 0 where
   pub there : 0 < timesHeld e q
-  pub least : (v : ℕ) → 0 < timesHeld v q → e ≤ v
+  pub least : (v : ℕ) → 0 < timesHeld v q → keyOf q e ≤ keyOf q v
 
 -- an entry is itself
 pub itself : (e : ℕ) → oneIf (eqb e e) ≡ 1
@@ -123,7 +122,6 @@ module _ {links : ℕ} (a : Lent) (fine : Fine links (queueOf a)) (order : T (in
   q₁ = queueOf a
 
   least : 0 < held q₁ → LeastHeld q₁ (theEntry (takeOne (keyOf q₁) (treeOf (q₁ .links)) (q₁ .buffers) .out))
-  unfolding keyOf wholeWord
   least some =
       let z = takeOne (keyOf q₁) (treeOf (q₁ .links)) (q₁ .buffers) in
       let e = theEntry (z .out) in

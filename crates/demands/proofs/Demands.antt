@@ -9,7 +9,7 @@ use Rattle.rules.specs.declared.Answer.{Answer}
 use Rattle.rules.specs.declared.Answer.the-variants.{Done, NoneHeld}
 use Rattle.rules.specs.Answers.{numberOf}
 use Rattle.rules.specs.Entries.{door}
-use Rattle.rules.specs.Links.{s, most, words}
+use Rattle.rules.specs.Links.{s, mostLinks, most, words}
 use Rattle.rules.specs.Queue.{held}
 use Rattle.rules.specs.Insert.{entered}
 use Rattle.rules.specs.Rest.{HasPlace}
@@ -21,7 +21,7 @@ use Rattle.rules.specs.Examples.{insertOf, takeIt, lookAt, heldNow, auditIt, ca
 use Rattle.rules.proofs.AnswerLaws as numbers
 use Rattle.rules.proofs.EntryOrder.{Earlier}
 use Rattle.rules.proofs.History.{packings-bound}
-use Rattle.rules.proofs.BoundLaws.{few-steps, four-rows, one-to-four}
+use Rattle.rules.proofs.BoundLaws.{few-steps, four-rows, is-link}
 use Rattle.buffers.specs.Format.{linksIn, bookOf, lentOf}
 use Rattle.buffers.specs.Post.{Unused}
 use Rattle.queue.proofs.AgreeLaws.{Agree}
@@ -241,8 +241,8 @@ module _ {ws : List ℕ} (cs : List Call) (h : History cs ws) where
   steps-by-rows = four-rows (links cs) (inserts (since cs)) (packings (since cs)) (steps (since cs)) steps-bounded
 
   -- and there are no other links: "link number 1 to 4"
-  pub one-to-four-links : (1 ≤ links cs) × (links cs ≤ 4)
-  one-to-four-links = one-to-four (links cs) (stands h .number)
+  pub no-other-links : (1 ≤ links cs) × (links cs ≤ mostLinks)
+  no-other-links = let number = is-link (links cs) (stands h .number) in (number .low, number .high)
 
   -- "P is at most n divided by s(L), rounded down"
   pub packings-few : packings (since cs) ≤ inserts (since cs) / s (links cs)

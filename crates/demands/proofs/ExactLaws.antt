@@ -81,23 +81,23 @@ answer-is work auditIt a = unless-answers (firstFailing (checksOf work auditIt a
 -- ---- "links not 1 to 4"
 
 module _ (l : ℕ) where
-  number-holds : 1 ≤ l → l ≤ 4 → isLinkNumber l ≡ true
-  unfolding isLinkNumber mostLinks
-  number-holds one four = rw (le-leb 1 l one, le-leb l 4 four) refl
+  number-holds : 1 ≤ l → l ≤ mostLinks → isLinkNumber l ≡ true
+  unfolding isLinkNumber
+  number-holds one few = rw (le-leb 1 l one, le-leb l mostLinks few) refl
 
   number-fails : NoLinkNumber l → isLinkNumber l ≡ false
-  unfolding isLinkNumber mostLinks
+  unfolding isLinkNumber
   number-fails (inl less) = rw (lt-leb 1 l less) refl
-  number-fails (inr more) = let one : 1 ≤ l = omega arith in rw (le-leb 1 l one, lt-leb l 4 more) refl
+  number-fails (inr more) = let one : 1 ≤ l = omega arith in rw (le-leb 1 l one, lt-leb l mostLinks more) refl
 
-  by-number : (P : Type 0) → (b : Bool) → isLinkNumber l ≡ b → (b ≡ true → 1 ≤ l → l ≤ 4 → P) → (b ≡ false → NoLinkNumber l → P) → P
-  unfolding isLinkNumber mostLinks
-  by-number P b is yes-case no-case = go (leb 1 l) (leb l 4) refl refl
+  by-number : (P : Type 0) → (b : Bool) → isLinkNumber l ≡ b → (b ≡ true → 1 ≤ l → l ≤ mostLinks → P) → (b ≡ false → NoLinkNumber l → P) → P
+  unfolding isLinkNumber
+  by-number P b is yes-case no-case = go (leb 1 l) (leb l mostLinks) refl refl
     where
-      go : (x y : Bool) → leb 1 l ≡ x → leb l 4 ≡ y → P
+      go : (x y : Bool) → leb 1 l ≡ x → leb l mostLinks ≡ y → P
       go false y ex ey = no-case (sym is ∙ rw ex refl) (inl (leb-false 1 l ex))
-      go true false ex ey = no-case (sym is ∙ rw (ex, ey) refl) (inr (leb-false l 4 ey))
-      go true true ex ey = yes-case (sym is ∙ rw (ex, ey) refl) (leb-true 1 l ex) (leb-true l 4 ey)
+      go true false ex ey = no-case (sym is ∙ rw (ex, ey) refl) (inr (leb-false l mostLinks ey))
+      go true true ex ey = yes-case (sym is ∙ rw (ex, ey) refl) (leb-true 1 l ex) (leb-true l mostLinks ey)
 
 -- ---- the checks that all calls but setup begin with
 
@@ -111,23 +111,23 @@ module _ (a : Lent) (checks : List Check) where
   array-passes : Enough a → firstFailing (arrayChecks a checks) ≡ firstFailing checks
   unfolding arrayChecks words
   array-passes e =
-      passes ArrayShort second (le-leb 296 (a .length) (e .shortest))
-      ∙ passes BookBroken third (number-holds (a .book .links) (e .one) (e .four))
+      passes ArrayShort second (le-leb (words 1) (a .length) (e .shortest))
+      ∙ passes BookBroken third (number-holds (a .book .links) (e .one) (e .few))
       ∙ passes ArrayShort checks (le-leb (words (a .book .links)) (a .length) (e .its-own))
 
-  array-short : a .length < 296 → firstFailing (arrayChecks a checks) ≡ ArrayShort
+  array-short : a .length < words 1 → firstFailing (arrayChecks a checks) ≡ ArrayShort
   unfolding arrayChecks words
-  array-short less = fails ArrayShort second (lt-leb 296 (a .length) less)
+  array-short less = fails ArrayShort second (lt-leb (words 1) (a .length) less)
 
-  array-no-number : 296 ≤ a .length → NoLinkNumber (a .book .links) → firstFailing (arrayChecks a checks) ≡ BookBroken
+  array-no-number : words 1 ≤ a .length → NoLinkNumber (a .book .links) → firstFailing (arrayChecks a checks) ≡ BookBroken
   unfolding arrayChecks words
-  array-no-number long other = passes ArrayShort second (le-leb 296 (a .length) long) ∙ fails BookBroken third (number-fails (a .book .links) other)
+  array-no-number long other = passes ArrayShort second (le-leb (words 1) (a .length) long) ∙ fails BookBroken third (number-fails (a .book .links) other)
 
-  array-short-for : 296 ≤ a .length → 1 ≤ a .book .links → a .book .links ≤ 4 → a .length < words (a .book .links) → firstFailing (arrayChecks a checks) ≡ ArrayShort
+  array-short-for : words 1 ≤ a .length → 1 ≤ a .book .links → a .book .links ≤ mostLinks → a .length < words (a .book .links) → firstFailing (arrayChecks a checks) ≡ ArrayShort
   unfolding arrayChecks words
-  array-short-for long one four less =
-      passes ArrayShort second (le-leb 296 (a .length) long)
-      ∙ passes BookBroken third (number-holds (a .book .links) one four)
+  array-short-for long one few less =
+      passes ArrayShort second (le-leb (words 1) (a .length) long)
+      ∙ passes BookBroken third (number-holds (a .book .links) one few)
       ∙ fails ArrayShort checks (lt-leb (words (a .book .links)) (a .length) less)
 
   -- each call but setup, once for all
@@ -136,17 +136,17 @@ module _ (a : Lent) (checks : List Check) where
   by-array work order other rest =
       let P = Answers work a order in
       let l = a .book .links in
-      by-check ArrayShort second P (leb 296 (a .length))
+      by-check ArrayShort second P (leb (words 1) (a .length))
       (λ long. by-check BookBroken third P (isLinkNumber l)
       (λ number. by-number l (P (firstFailing third)) true number
-      (λ e one four. by-check ArrayShort checks P (leb (words l) (a .length))
-      (λ own. rest (record { shortest = leb-true 296 (a .length) long; one = one; four = four; its-own = leb-true (words l) (a .length) own }))
-      (λ own. short-for-its-links order other (leb-true 296 (a .length) long) one four (leb-false (words l) (a .length) own)))
+      (λ e one few. by-check ArrayShort checks P (leb (words l) (a .length))
+      (λ own. rest (record { shortest = leb-true (words 1) (a .length) long; one = one; few = few; its-own = leb-true (words l) (a .length) own }))
+      (λ own. short-for-its-links order other (leb-true (words 1) (a .length) long) one few (leb-false (words l) (a .length) own)))
       (λ e none. absurd (subst T e tt)))
       (λ number. by-number l (P BookBroken) false number
-      (λ e one four. absurd (subst T (sym e) tt))
-      (λ e none. no-number order other (leb-true 296 (a .length) long) none)))
-      (λ long. short order other (leb-false 296 (a .length) long))
+      (λ e one few. absurd (subst T (sym e) tt))
+      (λ e none. no-number order other (leb-true (words 1) (a .length) long) none)))
+      (λ long. short order other (leb-false (words 1) (a .length) long))
 
 -- ---- each call has an answer of the table
 
@@ -167,11 +167,11 @@ module _ (work : ℕ) (a : Lent) where
       let last = (leb (words l) (a .length) else ArrayShort) ∷ [] in
       by-check NoSuchLinks last P (isLinkNumber l)
       (λ number. by-number l (P (firstFailing last)) true number
-      (λ e one four. by-check ArrayShort [] P (leb (words l) (a .length))
-      (λ own. setup-done l one four (leb-true (words l) (a .length) own))
-      (λ own. setup-short l one four (leb-false (words l) (a .length) own)))
+      (λ e one few. by-check ArrayShort [] P (leb (words l) (a .length))
+      (λ own. setup-done l one few (leb-true (words l) (a .length) own))
+      (λ own. setup-short l one few (leb-false (words l) (a .length) own)))
       (λ e none. absurd (subst T e tt)))
-      (λ number. by-number l (P NoSuchLinks) false number (λ e one four. absurd (subst T (sym e) tt)) (λ e none. no-links l none))
+      (λ number. by-number l (P NoSuchLinks) false number (λ e one few. absurd (subst T (sym e) tt)) (λ e none. no-links l none))
 
   says-insert : (entry : ℕ) → Says (insertOf entry) (firstFailing (checksOf work (insertOf entry) a))
   unfolding checksOf firstFailing insertChecks takeChecks queueOf
@@ -257,9 +257,9 @@ module _ (work : ℕ) (a : Lent) where
   only : {order : Order} {r : Answer} → Says order r → firstFailing (checksOf work order a) ≡ r
   unfolding checksOf rest firstFailing
   only (no-links l none) = rw (number-fails l none) refl
-  only (setup-short l one four less) = rw (number-holds l one four, lt-leb (words l) (a .length) less) refl
+  only (setup-short l one few less) = rw (number-holds l one few, lt-leb (words l) (a .length) less) refl
   only (short order other less) = ap firstFailing (splits order other) ∙ array-short a (rest order) less
-  only (short-for-its-links order other long one four less) = ap firstFailing (splits order other) ∙ array-short-for a (rest order) long one four less
+  only (short-for-its-links order other long one few less) = ap firstFailing (splits order other) ∙ array-short-for a (rest order) long one few less
   only (work-short entry e less) = first-is (insertOf entry) refl e ∙ rw (lt-leb H work less) refl
   only (no-number order other long none) = ap firstFailing (splits order other) ∙ array-no-number a (rest order) long none
   only (broken order other e w s) = first-is order other e ∙ broken-rest order other w s
@@ -268,7 +268,7 @@ module _ (work : ℕ) (a : Lent) where
   only (none-to-see so none) = first-is lookAt refl (so .enough) ∙ rw (so .holds, none) refl
   only (door-above entry so d) = first-is (insertOf entry) refl (so .enough) ∙ rw (le-leb H work (so .work-enough), so .holds, lt-leb (door entry) 2 d) refl
   only (disordered so e) = first-is auditIt refl (so .enough) ∙ rw (so .holds, e) refl
-  only (setup-done l one four own) = rw (number-holds l one four, le-leb (words l) (a .length) own) refl
+  only (setup-done l one few own) = rw (number-holds l one few, le-leb (words l) (a .length) own) refl
   only (insert-done entry so d f) = first-is (insertOf entry) refl (so .enough) ∙ rw (le-leb H work (so .work-enough), so .holds, le-leb (door entry) 2 d, lt-ltb count H f) refl
   only (take-done so some) = first-is takeIt refl (so .enough) ∙ rw (so .holds, lt-ltb 0 count some) refl
   only (look-done so some) = first-is lookAt refl (so .enough) ∙ rw (so .holds, lt-ltb 0 count some) refl

@@ -45,30 +45,34 @@ front q =
     q .links ∷ counter q 1 ∷ 0 ∷ 0 ∷ 0 ∷ 0 ∷ 0 ∷ 0
     ∷ length (buffer q 0) ∷ length (buffer q 1) ∷ length (buffer q 2) ∷ length (buffer q 3) ∷ length (buffer q 4) ∷ []
 
+-- the book's words behind them
+abbrev spare : ℕ
+spare = bookWords - 13
+
 slots : Queue → List ℕ
 unfolding buffer eight
 slots q = eight (buffer q 0) ++ eight (buffer q 1) ++ eight (buffer q 2) ++ eight (buffer q 3) ++ eight (buffer q 4)
 
 wordsOf : Queue → List ℕ
 unfolding front slots
-wordsOf q = front q ++ replicate 243 0 ++ slots q
+wordsOf q = front q ++ replicate spare 0 ++ slots q
 
 long-eight : (es : List ℕ) → length (eight es) ≡ 8
 unfolding eight
 long-eight es = simp (length-take, length-append, length-replicate) (omega arith)
 
-long : (q : Queue) → length (wordsOf q) ≡ 296
-unfolding wordsOf
+long : (q : Queue) → length (wordsOf q) ≡ words 1
+unfolding wordsOf words
 long q = simp (length-append, long-eight) (omega arith)
 
-past-all : (q : Queue) (p : ℕ) → 296 ≤ p → getD (wordsOf q) p 0 ≡ 0
+past-all : (q : Queue) (p : ℕ) → words 1 ≤ p → getD (wordsOf q) p 0 ≡ 0
 past-all q p far = List·getD-eq-default (wordsOf q) 0 (omega (arith, long q))
 
-past-book : (q : Queue) (p : ℕ) → 256 ≤ p → getD (wordsOf q) p 0 ≡ getD (slots q) (p - 256) 0
+past-book : (q : Queue) (p : ℕ) → bookWords ≤ p → getD (wordsOf q) p 0 ≡ getD (slots q) (p - bookWords) 0
 unfolding wordsOf
 past-book q p far =
-    let e : p ≡ 256 + (p - 256) = omega arith in
-    ap (λ (p : ℕ). getD (wordsOf q) p 0) e ∙ getD-append-add (front q ++ replicate 243 0) (slots q) (p - 256) 0
+    let e : p ≡ bookWords + (p - bookWords) = omega arith in
+    ap (λ (p : ℕ). getD (wordsOf q) p 0) e ∙ getD-append-add (front q ++ replicate spare 0) (slots q) (p - bookWords) 0
 
 zeros-between : (before : List ℕ) (n : ℕ) (rest : List ℕ) (p : ℕ) → length before ≤ p → p < length before + n → getD (before ++ replicate n 0 ++ rest) p 0 ≡ 0
 zeros-between before n rest p low high =
@@ -80,16 +84,16 @@ zeros-between before n rest p low high =
     ∙ getD-replicate n m 0 0 (omega arith)
 
 unused-zero : (q : Queue) (p : ℕ) → Unused 1 p → getD (wordsOf q) p 0 ≡ 0
-unfolding wordsOf bufferCount bookWords
+unfolding wordsOf bufferCount
 unused-zero q p (inl u) =
     let low : 2 ≤ p = u .0 in
     let high : p < 8 = u .1 in
     zeros-between (q .links ∷ counter q 1 ∷ []) 6
-    (length (buffer q 0) ∷ length (buffer q 1) ∷ length (buffer q 2) ∷ length (buffer q 3) ∷ length (buffer q 4) ∷ replicate 243 0 ++ slots q) p low high
+    (length (buffer q 0) ∷ length (buffer q 1) ∷ length (buffer q 2) ∷ length (buffer q 3) ∷ length (buffer q 4) ∷ replicate spare 0 ++ slots q) p low high
 unused-zero q p (inr u) =
     let low : 13 ≤ p = u .0 in
-    let high : p < 256 = u .1 in
-    zeros-between (front q) 243 (slots q) p low high
+    let high : p < bookWords = u .1 in
+    zeros-between (front q) spare (slots q) p low high
 
 -- ---- tests of equality
 
@@ -190,7 +194,7 @@ module _ (q : Queue) (o : Outcome) where
         steps-are = refl;
         packed-is = refl;
         long = long r ∙ sym (long q);
-        past = λ p far. let far′ : 296 ≤ p = subst (λ (l : ℕ). words l ≤ p) one far in past-all r p far′ ∙ sym (past-all q p far′);
+        past = λ p far. let far′ : words 1 ≤ p = subst (λ (l : ℕ). words l ≤ p) one far in past-all r p far′ ∙ sym (past-all q p far′);
         unused = λ p u. let u′ = subst (λ (l : ℕ). Unused l p) one u in unused-zero r p u′ ∙ sym (unused-zero q p u′);
         refused = λ no. absurd (unlike (sym e ∙ no));
         queue-is = λ done. same-queue (queueOf (lentOf ws)) r (each .1);
@@ -206,8 +210,7 @@ refused-besides heldNow ws area answer = (refl, refl)
 refused-besides auditIt ws area answer = (refl, refl)
 
 slots-kept : (q r : Queue) → slots r ≡ slots q → SlotsKept (wordsOf q) (wordsOf r)
-unfolding bookWords
-slots-kept q r e p far = past-book r p far ∙ ap (λ (es : List ℕ). getD es (p - 256) 0) e ∙ sym (past-book q p far)
+slots-kept q r e p far = past-book r p far ∙ ap (λ (es : List ℕ). getD es (p - bookWords) 0) e ∙ sym (past-book q p far)
 
 accepted-besides : (order : Order) (q r : Queue) (area : List ℕ) (answer : Answer) → T (keeps order q r) → Besides order (wordsOf q) (wordsOf r) area area answer
 unfolding keeps

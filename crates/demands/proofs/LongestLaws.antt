@@ -1,5 +1,5 @@
 -- How long one call can run, on any words: nothing is known of them but what the call itself finds.
-use Prim.Native.Nat.{ℕ, _^_, _≤_, _<_}
+use Prim.Native.Nat.{ℕ, suc, _^_, _≤_, _<_}
 use mathlib.Core.Path.{_≡_, refl, subst}
 use mathlib.Core.Logic.{_⊎_, inl, inr}
 use mathlib.Core.List.{List}
@@ -15,22 +15,33 @@ use Rattle.rules.proofs.BookLaws.{Kept, sound-says}
 use Rattle.rules.proofs.BookKept.{Shaped}
 use Rattle.rules.proofs.LongestLaws.{take-longest, insert-longest}
 use Rattle.rules.proofs.Accepted.{Refusal, Long, take-cases, look-cases, insert-call-cases, held-cases, audit-cases}
-use Rattle.rules.proofs.BoundLaws.{of-four}
+use Rattle.rules.specs.Tests.{every}
+use Rattle.rules.specs.Links.{LinkNumber}
+use Rattle.rules.proofs.Table.{at-most}
+use Rattle.rules.proofs.BoundLaws.{is-link}
 use Rattle.buffers.specs.Format.{linksIn, bookOf, lentOf}
 use Rattle.buffers.proofs.Exact.{sound-inside}
 use Rattle.queue.proofs.BookLaws.{describes, shaped}
 use Rattle.demands.specs.Histories.{Call, Made}
 use Rattle.demands.proofs.CallLaws.{setup-steps}
 
--- no call runs longer than 138,176 steps
-few : (order : Order) (l : ℕ) → T (isLinkNumber l) → longestCall order l ≤ 138176
-unfolding longestCall longestTake longestInsert
-few (setupOf l) = of-four (λ l. 0 ≤ 138176) (lit≤ tt) (lit≤ tt) (lit≤ tt) (lit≤ tt)
-few (insertOf entry) = of-four (λ l. longestInsert l ≤ 138176) (lit≤ tt) (lit≤ tt) (lit≤ tt) (lit≤ tt)
-few takeIt = of-four (λ l. longestTake l ≤ 138176) (lit≤ tt) (lit≤ tt) (lit≤ tt) (lit≤ tt)
-few lookAt = of-four (λ l. longestTake l ≤ 138176) (lit≤ tt) (lit≤ tt) (lit≤ tt) (lit≤ tt)
-few heldNow = of-four (λ l. 0 ≤ 138176) (lit≤ tt) (lit≤ tt) (lit≤ tt) (lit≤ tt)
-few auditIt = of-four (λ l. 0 ≤ 138176) (lit≤ tt) (lit≤ tt) (lit≤ tt) (lit≤ tt)
+-- no call runs longer than eight digits can say
+take-few : {l : ℕ} → LinkNumber l → longestTake l < 16 ^ 8
+unfolding every longestTake
+take-few = at-most (λ l. suc (longestTake l)) (16 ^ 8) tt
+
+insert-few : {l : ℕ} → LinkNumber l → longestInsert l < 16 ^ 8
+unfolding every longestInsert
+insert-few = at-most (λ l. suc (longestInsert l)) (16 ^ 8) tt
+
+few : (order : Order) {l : ℕ} → LinkNumber l → longestCall order l < 16 ^ 8
+unfolding longestCall
+few (setupOf l) h = lit≤ tt
+few (insertOf entry) h = insert-few h
+few takeIt h = take-few h
+few lookAt h = take-few h
+few heldNow h = lit≤ tt
+few auditIt h = lit≤ tt
 
 -- ---- any array
 
@@ -38,7 +49,7 @@ module _ (ws : List ℕ) where
   abbrev a : Lent
   a = lentOf ws
 
-  -- a call makes no step, or it is on one to four links and makes at most so many
+  -- a call makes no step, or the array names a link number and it makes at most so many
   abbrev Runs : Order → Outcome → Type 0
   Runs order o = (o .steps ≡ 0) ⊎ (T (isLinkNumber (linksIn ws)) × (o .steps ≤ longestCall order (linksIn ws)))
 
@@ -81,7 +92,7 @@ module _ (ws : List ℕ) where
   call-few work order =
       elim (runs work order) [
         | inl none ↦ omega (arith, none)
-        | inr some ↦ omega (arith, some .1, few order (linksIn ws) (some .0))
+        | inr some ↦ omega (arith, some .1, few order (is-link (linksIn ws) (some .0)))
       ]
 
 module _ (ws ws′ : List ℕ) (c : Call) (made : Made ws c ws′) where

@@ -7,7 +7,7 @@ use mathlib.Core.List.{List}
 use Rattle.rules.specs.declared.Answer.{Answer}
 use Rattle.rules.specs.declared.Answer.the-variants.{NoSuchLinks, ArrayShort, WorkShort, BookBroken, Full, NoneHeld, DoorAbove, OrderBroken}
 use Rattle.rules.specs.Entries.{door}
-use Rattle.rules.specs.Links.{most, words}
+use Rattle.rules.specs.Links.{mostLinks, most, words}
 use Rattle.rules.specs.Tree.{treeOf}
 use Rattle.rules.specs.Queue.{keyOf, held}
 use Rattle.rules.specs.Order.{inOrder}
@@ -32,8 +32,8 @@ module _ (work : ℕ) (order : Order) (a : Lent) where
   -- 2 | "array shorter than 296 words, or than its L needs": a setup's L is the one ordered, any other call's the book's
   abbrev pub WhenTwo : Type 0
   WhenTwo =
-      ((l : ℕ) × (order ≡ setupOf l) × (1 ≤ l) × (l ≤ 4) × (a .length < words l))
-      ⊎ ((isSetup order ≡ false) × ((a .length < 296) ⊎ ((296 ≤ a .length) × (1 ≤ L) × (L ≤ 4) × (a .length < words L))))
+      ((l : ℕ) × (order ≡ setupOf l) × (1 ≤ l) × (l ≤ mostLinks) × (a .length < words l))
+      ⊎ ((isSetup order ≡ false) × ((a .length < words 1) ⊎ ((words 1 ≤ a .length) × (1 ≤ L) × (L ≤ mostLinks) × (a .length < words L))))
 
   -- 3 | "insert: work area shorter than H"
   abbrev pub WhenThree : Type 0
@@ -41,7 +41,7 @@ module _ (work : ℕ) (order : Order) (a : Lent) where
 
   -- 4 | "the book breaks a book rule": its link number, or another
   abbrev pub WhenFour : Type 0
-  WhenFour = (isSetup order ≡ false) × (((296 ≤ a .length) × NoLinkNumber L) ⊎ (Enough a × WorkEnough work order a × (sound (a .book) ≡ false)))
+  WhenFour = (isSetup order ≡ false) × (((words 1 ≤ a .length) × NoLinkNumber L) ⊎ (Enough a × WorkEnough work order a × (sound (a .book) ≡ false)))
 
   -- 5 | "insert: H entries held"
   abbrev pub WhenFive : Type 0

@@ -14,7 +14,9 @@ use Rattle.rules.specs.Tests.{_or_}
 use Rattle.rules.specs.Bounds.{perPacking, stepsBound}
 use Rattle.rules.specs.Longest.{longestCall}
 use Rattle.rules.specs.Examples.{Order, setupOf, insertOf, takeIt, lookAt, heldNow, auditIt, call}
-use Rattle.rules.proofs.BoundLaws.{few-held}
+use Rattle.rules.proofs.BoundLaws.{is-link}
+use Rattle.buffers.specs.Weights.{broken}
+use Rattle.buffers.proofs.LinkWeights.{most-small}
 use Rattle.buffers.specs.Format.{lentOf}
 use Rattle.frames.specs.Digits.{number, digits}
 use Rattle.frames.proofs.DigitLaws.{number-digits}
@@ -143,7 +145,7 @@ out-seen (c ∷ cs) = go (c .order) (accepted c) (out-seen cs)
 smallest-by : (e : ℕ) (cs ds : List Call) → putIn ds ≡ putIn cs → takenOut ds ≡ takenOut cs → Smallest e cs → Smallest e ds
 smallest-by e cs ds i o z = record { held = rw (i, o) (z .held); least = λ v h. z .least v (rw (i, o) at h) }
 
-module _ (c : Call) (now : List Call) (l : ℕ) (small : Small (putIn now)) (outs : takenOut (map seen now) ≡ takenOut now) (fits : inserts now ≤ takes now + 17280) where
+module _ (c : Call) (now : List Call) (l : ℕ) (small : Small (putIn now)) (outs : takenOut (map seen now) ≡ takenOut now) (fits : inserts now ≤ takes now + broken) where
   still : (v : ℕ) → StillHeld v (map seen now) → StillHeld v now
   still v h = rw (put-seen now, outs) at h
 
@@ -182,10 +184,10 @@ module _ {ws ws′ : List ℕ} (cs : List Call) (calls : Sequence ws cs ws′) (
   outs : takenOut (map seen (since cs)) ≡ takenOut (since cs)
   outs = out-seen (since cs) ∙ all-again (takenOut (since cs)) (λ v g. puts v (omega (arith, sequence-held cs calls has .no-more v)))
 
-  fit : inserts (since cs) ≤ takes (since cs) + 17280
+  fit : inserts (since cs) ≤ takes (since cs) + broken
   fit =
       let h = from-setup calls has in
-      from-last (λ now l. inserts now ≤ takes now + 17280) cs (omega (arith, at-most h, few-held (links (fromSetup cs)) (stands h .number)))
+      from-last (λ now l. inserts now ≤ takes now + broken) cs (omega (arith, at-most h, most-small (is-link (links (fromSetup cs)) (stands h .number))))
 
 -- those told up to some time are calls up to some time, each as its line tells it
 record Parted (cs earlier : List Call) : Type 0 where
@@ -231,7 +233,7 @@ held-seen now l outs z = record {
   no-more = λ v. omega (arith, ap (times v) outs, ap (times v) (put-seen now), z .no-more v);
   exactly = λ e v. ap (times v) outs ∙ z .exactly (sym (ap length outs) ∙ e ∙ ap length (put-seen now)) v ∙ sym (ap (times v) (put-seen now));
   one = z .one;
-  four = z .four;
+  few = z .few;
   at-most = omega (arith, z .at-most, ap length outs, ap length (put-seen now));
 }
 

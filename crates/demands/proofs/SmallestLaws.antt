@@ -7,15 +7,15 @@ use native.Mathlib.Omega.{arith}
 use lib.Dec.{T, eqb}
 use lib.ListN.{length}
 use Rattle.rules.specs.Answers.{isDone}
-use Rattle.rules.specs.Entries.{wholeWord}
+use Rattle.rules.specs.Entries.{theRule, keyBy}
 use Rattle.rules.specs.Tests.{_and_}
 use Rattle.rules.specs.Tree.{treeOf}
 use Rattle.rules.specs.Order.{inOrder}
-use Rattle.rules.specs.Queue.{Queue, keyOf, held}
+use Rattle.rules.specs.Queue.{Queue, ruleOf, keyOf, held}
 use Rattle.rules.specs.Calls.{Lent, queueOf}
 use Rattle.rules.specs.Examples.{Order, takeIt, lookAt, call}
 use Rattle.rules.proofs.Weight.{sumOf-ones, oneIf, timesOf}
-use Rattle.rules.proofs.EntryOrder.{Earlier, earlier-smaller}
+use Rattle.rules.proofs.EntryOrder.{Earlier, earlier-smaller, one-key}
 use Rattle.rules.proofs.History.{Fine, since-fine, since-ordered}
 use Rattle.buffers.specs.Format.{lentOf}
 use Rattle.queue.proofs.AgreeLaws.{the-answer}
@@ -64,6 +64,11 @@ times-is : (v : ℕ) (es : List ℕ) → times v es ≡ timesOf v es
 times-is v [] = refl
 times-is v (e ∷ es) = omega (arith, once-is (eqb v e), times-is v es)
 
+-- every queue orders by the one rule
+key-is : (q : Queue) → keyOf q ≡ keyBy theRule
+unfolding keyOf ruleOf theRule
+key-is q = refl
+
 module _ {cs : List Call} {ws : List ℕ} (h : History cs ws) where
   abbrev q : Queue
   q = queueOf (lentOf ws)
@@ -82,8 +87,7 @@ module _ {cs : List Call} {ws : List ℕ} (h : History cs ws) where
 
   -- a smallest entry of the queue is the smallest put in and still held
   smallest : (e : ℕ) → LeastHeld q e → Smallest e (since cs)
-  unfolding wholeWord
-  smallest e h = record { held = omega (arith, h .there, times-held e); least = λ v s. h .least v (omega (arith, times-held v)) }
+  smallest e h = record { held = omega (arith, h .there, times-held e); least = λ v s. subst (λ key. key e ≤ key v) (key-is q) (h .least v (omega (arith, times-held v))) }
 
   abbrev a : Lent
   a = lentOf ws
@@ -119,11 +123,7 @@ no-setup c order is other = ap (λ order. isSetup order and accepted c) is ∙ a
 
 -- there is but one smallest entry
 one-smallest : (e f : ℕ) (cs ds : List Call) → putIn cs ≡ putIn ds → takenOut cs ≡ takenOut ds → Smallest e cs → Smallest f ds → e ≡ f
-unfolding wholeWord
-one-smallest e f cs ds i o one two =
-    let le : e ≤ f = one .least f (rw (i, o) (two .held)) in
-    let ge : f ≤ e = two .least e (rw (← i, ← o) (one .held)) in
-    omega arith
+one-smallest e f cs ds i o one two = one-key theRule e f (omega (arith, one .least f (rw (i, o) (two .held)), two .least e (rw (← i, ← o) (one .held))))
 
 -- a call that brings and hands out nothing adds nothing to either
 none-either : (b : Bool) → ifDone b [] ≡ []
@@ -146,4 +146,4 @@ taken-as-seen c d cs is one two = let same = look-adds-none d cs is in one-small
 
 -- none that is still held comes earlier by tick, door and command
 pub none-earlier : (e : ℕ) (cs : List Call) → Smallest e cs → (v : ℕ) → StillHeld v cs → Earlier v e → ⊥
-none-earlier e cs s v still earlier = omega (arith, s .least v still, earlier-smaller v e earlier)
+none-earlier e cs s v still earlier = omega (arith, s .least v still, earlier-smaller theRule v e earlier)

@@ -1,5 +1,5 @@
 -- Words past the stated length are never read: arrays that differ in such words alone are answered alike.
-use Prim.Native.Nat.{ℕ, _+_, _≤_, _<_}
+use Prim.Native.Nat.{ℕ, suc, _+_, _≤_, _<_}
 use mathlib.Core.Path.{_≡_, refl, sym, ap, _∙_, subst}
 use mathlib.Core.Bool.{Bool, true, false}
 use mathlib.Core.Logic.{inl, inr}
@@ -14,7 +14,7 @@ use Rattle.rules.specs.Calls.{Outcome, refused, queueOf}
 use Rattle.rules.specs.Examples.{Order, call}
 use Rattle.rules.specs.Tests.{every}
 use Rattle.rules.proofs.Tests.{truth}
-use Rattle.rules.proofs.Table.{each-link}
+use Rattle.rules.proofs.Table.{each-link, at-least}
 use Rattle.rules.proofs.Accepted.{Long}
 use Rattle.buffers.specs.Format.{linksIn, counterIn, wordOf, countIn, startIn, markIn, countOf, many, headOf, bookOf, bufferOf, buffersOf, lentOf}
 use Rattle.buffers.specs.Post.{Inside, Unused}
@@ -30,10 +30,10 @@ use Rattle.demands.specs.Histories.{Call, Made, accepted, MadeSame}
 
 -- ---- what arrays with the same words up to the stated length say
 
--- the book stands before the stated length
-book-within : (l : ℕ) → 256 ≤ words l
-unfolding words bookWords
-book-within l = omega arith
+-- the book stands before the stated length, with slots behind it
+book-within : {l : ℕ} → LinkNumber l → bookWords < words l
+unfolding every words
+book-within = at-least words (suc bookWords) tt
 
 -- a buffer's word means something
 buffer-used : (l n : ℕ) → n < bufferCount l → Unused l (8 + n) → ⊥
@@ -41,8 +41,7 @@ buffer-used l n lt (inl u) = omega (arith, u .1)
 buffer-used l n lt (inr u) = omega (arith, u .0)
 
 -- and so does every slot
-slot-used : (l p : ℕ) → 256 ≤ p → Unused l p → ⊥
-unfolding bookWords
+slot-used : (l p : ℕ) → bookWords ≤ p → Unused l p → ⊥
 slot-used l p behind u = omega (arith, unused-within u)
 
 module _ (ws vs : List ℕ) (same : SameUpTo ws vs) where
@@ -52,7 +51,7 @@ module _ (ws vs : List ℕ) (same : SameUpTo ws vs) where
   -- where the link number is one, the book is the same: it stands before the stated length
   module _ (link : LinkNumber (linksIn ws)) where
     word-same : (n : ℕ) → n < many ws → wordOf vs n ≡ wordOf ws n
-    word-same n lt = same .words-are link (8 + n) (omega (arith, few link, book-within (linksIn ws))) (buffer-used (linksIn ws) n lt)
+    word-same n lt = same .words-are link (8 + n) (omega (arith, few link, book-within link)) (buffer-used (linksIn ws) n lt)
 
     -- one value for each buffer, by its word
     by-word : {A : Type 0} (f : ℕ → A) → map (λ n. f (wordOf vs n)) (from 0 (many vs)) ≡ map (λ n. f (wordOf ws n)) (from 0 (many ws))
@@ -64,7 +63,7 @@ module _ (ws vs : List ℕ) (same : SameUpTo ws vs) where
     counters-same =
         ap (λ l. map (counterIn vs) (from 1 l)) (same .links)
         ∙ each-same (counterIn vs) (counterIn ws) 1 (linksIn ws) (λ m lt.
-        same .words-are link m (omega (arith, link .high, book-within (linksIn ws))) (λ u. omega (arith, unused-behind m (omega arith) (omega (arith, link .high)) u)))
+        same .words-are link m (omega (arith, link .high, book-within link)) (λ u. omega (arith, unused-behind m (omega arith) (omega (arith, link .high)) u)))
 
     book-same : bookOf vs ≡ bookOf ws
     unfolding bookOf

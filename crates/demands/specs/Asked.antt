@@ -5,7 +5,7 @@ use mathlib.Core.Bool.{true, false}
 use mathlib.Core.List.{List, _∷_, _++_}
 use Rattle.rules.specs.declared.Answer.the-variants.{Done, WorkShort, Full, NoneHeld, DoorAbove}
 use Rattle.rules.specs.Entries.{door}
-use Rattle.rules.specs.Links.{s, most}
+use Rattle.rules.specs.Links.{s, mostLinks, most}
 use Rattle.rules.specs.Bounds.{stepsBound}
 use Rattle.rules.specs.Longest.{longestCall}
 use Rattle.rules.specs.Examples.{insertOf, takeIt, lookAt, heldNow, auditIt, call}
@@ -47,7 +47,7 @@ pub record Held (now : List Call) (l : ℕ) : Type 0 where
   pub exactly : takes now ≡ inserts now → AsOften now
   -- "A queue of L links (1 to 4) holds at most H = k(L) x s(L) entries."
   pub one : 1 ≤ l
-  pub four : l ≤ 4
+  pub few : l ≤ mostLinks
   pub at-most : inserts now ≤ takes now + most l
 
 -- of the same calls and p packings: "with n accepted inserts and P packings the steps total at most ..; P is at most n divided by s(L), rounded down"

@@ -6,7 +6,7 @@ use mathlib.Core.Bool.{true, false}
 use Rattle.rules.specs.declared.Answer.{Answer}
 use Rattle.rules.specs.declared.Answer.the-variants.{Done, NoSuchLinks, ArrayShort, WorkShort, BookBroken, Full, NoneHeld, DoorAbove, OrderBroken}
 use Rattle.rules.specs.Entries.{door}
-use Rattle.rules.specs.Links.{most, words}
+use Rattle.rules.specs.Links.{mostLinks, most, words}
 use Rattle.rules.specs.Tree.{treeOf}
 use Rattle.rules.specs.Queue.{keyOf, held}
 use Rattle.rules.specs.Order.{inOrder}
@@ -17,13 +17,13 @@ use Rattle.demands.specs.Histories.{isSetup}
 
 -- "links not 1 to 4"
 abbrev pub NoLinkNumber : ℕ → Type 0
-NoLinkNumber l = (l < 1) ⊎ (4 < l)
+NoLinkNumber l = (l < 1) ⊎ (mostLinks < l)
 
 -- "2 (296 words), 4 (link number), 2 (its L)" do not fail
 pub record Enough (a : Lent) : Type 0 where
-  pub shortest : 296 ≤ a .length
+  pub shortest : words 1 ≤ a .length
   pub one : 1 ≤ a .book .links
-  pub four : a .book .links ≤ 4
+  pub few : a .book .links ≤ mostLinks
   pub its-own : words (a .book .links) ≤ a .length
 
 -- "insert 3, 4": an insert's work area is looked at before the book
@@ -46,14 +46,14 @@ pub data Answers (work : ℕ) (a : Lent) : Order → Answer → Type 0 where
   -- 1 | "setup: links not 1 to 4"
   no-links : (l : ℕ) → NoLinkNumber l → Answers work a (setupOf l) NoSuchLinks
   -- 2 | "array shorter than 296 words, or than its L needs"
-  setup-short : (l : ℕ) → 1 ≤ l → l ≤ 4 → a .length < words l → Answers work a (setupOf l) ArrayShort
-  short : (order : Order) → isSetup order ≡ false → a .length < 296 → Answers work a order ArrayShort
-  short-for-its-links : (order : Order) → isSetup order ≡ false → 296 ≤ a .length → 1 ≤ a .book .links → a .book .links ≤ 4 → a .length < words (a .book .links)
+  setup-short : (l : ℕ) → 1 ≤ l → l ≤ mostLinks → a .length < words l → Answers work a (setupOf l) ArrayShort
+  short : (order : Order) → isSetup order ≡ false → a .length < words 1 → Answers work a order ArrayShort
+  short-for-its-links : (order : Order) → isSetup order ≡ false → words 1 ≤ a .length → 1 ≤ a .book .links → a .book .links ≤ mostLinks → a .length < words (a .book .links)
       → Answers work a order ArrayShort
   -- 3 | "insert: work area shorter than H"
   work-short : (entry : ℕ) → Enough a → work < most (a .book .links) → Answers work a (insertOf entry) WorkShort
   -- 4 | "the book breaks a book rule": its link number, or another
-  no-number : (order : Order) → isSetup order ≡ false → 296 ≤ a .length → NoLinkNumber (a .book .links) → Answers work a order BookBroken
+  no-number : (order : Order) → isSetup order ≡ false → words 1 ≤ a .length → NoLinkNumber (a .book .links) → Answers work a order BookBroken
   broken : (order : Order) → isSetup order ≡ false → Enough a → WorkEnough work order a → sound (a .book) ≡ false → Answers work a order BookBroken
   -- 5 | "insert: H entries held"
   full : (entry : ℕ) → Sound work (insertOf entry) a → door entry ≤ 2 → most (a .book .links) ≤ held (queueOf a) → Answers work a (insertOf entry) Full
@@ -65,7 +65,7 @@ pub data Answers (work : ℕ) (a : Lent) : Order → Answer → Type 0 where
   -- 9 | "audit: book sound, order rule broken"
   disordered : Sound work auditIt a → inOrder (keyOf (queueOf a)) (treeOf (a .book .links)) (a .buffers) ≡ false → Answers work a auditIt OrderBroken
   -- 0 | "done"
-  setup-done : (l : ℕ) → 1 ≤ l → l ≤ 4 → words l ≤ a .length → Answers work a (setupOf l) Done
+  setup-done : (l : ℕ) → 1 ≤ l → l ≤ mostLinks → words l ≤ a .length → Answers work a (setupOf l) Done
   insert-done : (entry : ℕ) → Sound work (insertOf entry) a → door entry ≤ 2 → held (queueOf a) < most (a .book .links) → Answers work a (insertOf entry) Done
   take-done : Sound work takeIt a → 0 < held (queueOf a) → Answers work a takeIt Done
   look-done : Sound work lookAt a → 0 < held (queueOf a) → Answers work a lookAt Done

@@ -7,7 +7,7 @@ use lib.Dec.{eqb}
 use lib.ListN.{length}
 use Rattle.rules.specs.declared.Answer.{Answer}
 use Rattle.rules.specs.Answers.{isDone}
-use Rattle.rules.specs.Entries.{wholeWord}
+use Rattle.rules.specs.Entries.{theRule, keyBy}
 use Rattle.rules.specs.Tests.{_and_, _or_}
 use Rattle.rules.specs.Examples.{Order, setupOf, insertOf, takeIt, lookAt, heldNow, auditIt, call}
 use Rattle.rules.specs.Links.{words}
@@ -169,7 +169,7 @@ times v (e ∷ es) = once (eqb v e) + times v es
 abbrev pub StillHeld : ℕ → List Call → Type 0
 StillHeld v cs = times v (takenOut cs) < times v (putIn cs)
 
--- "the smallest entry put in and still held", by "the whole word as a number"
+-- "the smallest entry put in and still held", by the one rule's key: "Order is that of the whole word as a number"
 pub record Smallest (e : ℕ) (cs : List Call) : Type 0 where
   pub held : StillHeld e cs
-  pub least : (v : ℕ) → StillHeld v cs → wholeWord e ≤ wholeWord v
+  pub least : (v : ℕ) → StillHeld v cs → keyBy theRule e ≤ keyBy theRule v

@@ -3,6 +3,7 @@ ghost use Prim.Native.Nat.{_≤_};
 ghost use lib.ListN.{length};
 use frames::Written;
 use lines::Cutter;
+use rules::Link;
 
 // The line so far; whether to read on; whether the input has ended.
 pub struct Went {
@@ -83,8 +84,8 @@ fn answer_last(a: &mut [u64], work: &mut [u64], cutter: Cutter) {
 
 // A proved loop has to end, and nothing says that the input does: the turns count down from a number that no run uses up.
 fn main() {
-    let mut a = [0u64; 2628];
-    let mut work = [0u64; 960];
+    let mut a = [0u64; Link::PROGRAM_WORDS];
+    let mut work = [0u64; Link::PROGRAM_WORK];
     let mut out = [0u8; 27648];
     let mut went = Went {
         cutter: Cutter::new(),

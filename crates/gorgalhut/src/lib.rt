@@ -5,6 +5,7 @@ ghost use lib.ListN.{length};
 ghost use Rattle.rules.specs.Tests.{_and_};
 ghost use Rattle.rules.specs.Answers.{answerOf};
 ghost use Rattle.rules.specs.Book.{sound};
+ghost use Rattle.rules.specs.Links.{bookWords};
 ghost use Rattle.buffers.specs.Format.{bookOf};
 ghost use lib.Dec.{ltb};
 ghost use Prim.Native.Nat.{_^_};
@@ -19,13 +20,14 @@ ghost use Prim.Native.Nat.{_≤_};
 ghost use lib.ListN.{drop};
 ghost use Rattle.lateness.specs.Reports.{Small};
 ghost use Rattle.gorgalhut.specs.Timed.{numbersOf, timedAnswer, timedReport};
+use rules::Link;
 
 // Whether the array has a book and the book keeps every book rule.
 #[no_mangle]
 pub extern "C" fn gorgalhut_book_sound(array: &[u64]) -> bool
-    ensures { λ r. ⌜ r ≡ (leb 256 (length (now (array .entry))) and sound (bookOf (now (array .entry)))) ⌝ }
+    ensures { λ r. ⌜ r ≡ (leb bookWords (length (now (array .entry))) and sound (bookOf (now (array .entry)))) ⌝ }
 {
-    if array.len() < 256 {
+    if array.len() < Link::BOOK {
         return false;
     }
     buffers::sound::book_sound(array)

@@ -5,7 +5,7 @@ use mathlib.Core.Path.{_≡_, refl, sym, ap, _∙_, subst}
 use mathlib.Core.List.{List, [], _++_}
 use native.Mathlib.Omega.{arith}
 use lib.ListN.{length}
-use Rattle.rules.specs.Links.{most, words}
+use Rattle.rules.specs.Links.{mostLinks, most, words}
 use Rattle.rules.specs.Bounds.{perInsert, perPacking}
 use Rattle.rules.specs.Longest.{longestTake, longestInsert}
 use Rattle.rules.proofs.Sizes.{leb-false}
@@ -22,15 +22,15 @@ as-field label {at = at} {end = end} {before = before} {after = after} e laid = 
 
 -- ---- of links that a queue can have
 
-there : (links : ℕ) (text : List ℕ) → links ≤ 4 → ifThere links text ≡ text
+there : (links : ℕ) (text : List ℕ) → links ≤ mostLinks → ifThere links text ≡ text
 unfolding ifThere
-there links text low = rw (leb-true links 4 low, ifThere) refl
+there links text low = rw (leb-true links mostLinks low, ifThere) refl
 
-not-there : (links : ℕ) (text : List ℕ) → 4 < links → ifThere links text ≡ []
+not-there : (links : ℕ) (text : List ℕ) → mostLinks < links → ifThere links text ≡ []
 unfolding ifThere
-not-there links text high = rw (leb-false links 4 high, ifThere) refl
+not-there links text high = rw (leb-false links mostLinks high, ifThere) refl
 
-module _ (links : ℕ) {at e₁ e₂ e₃ : ℕ} {a b c d : List ℕ} (low : links ≤ 4) (inside : at ≤ length a) where
+module _ (links : ℕ) {at e₁ e₂ e₃ : ℕ} {a b c d : List ℕ} (low : links ≤ mostLinks) (inside : at ≤ length a) where
   -- three texts, one behind the other
   three : (one two last : List ℕ) → Laid one at a b e₁ → Laid two e₁ b c e₂ → Laid last e₂ c d e₃ → Laid (ifThere links (one ++ two ++ last)) at a d e₃
   three one two last x y z = subst (λ text. Laid text at a d e₃) (sym (there links (one ++ two ++ last) low)) (laid-behind inside (laid-behind inside x y) z)
@@ -45,7 +45,7 @@ module _ (links : ℕ) {at e₁ e₂ e₃ : ℕ} {a b c d : List ℕ} (low : lin
   inserts-laid = three (field "  longest insert " (longestInsert links)) (field "  per insert " (perInsert links)) (field "  per packing " (perPacking links))
 
 -- of others there is nothing to lay
-module _ (links at : ℕ) (before : List ℕ) (high : 4 < links) where
+module _ (links at : ℕ) (before : List ℕ) (high : mostLinks < links) where
   pub no-sizes : Laid (sizes links) at before before at
   unfolding sizes
   no-sizes = subst (λ text. Laid text at before before at) (sym (not-there links (field "  array " (words links) ++ field "  work " (most links) ++ field "  entries " (most links)) high)) (laid-none at before)

@@ -1,6 +1,6 @@
 -- The sizes of five links: what a computed test says of each.
 use Prim.Native.Nat.{ℕ, suc, _+_, _^_, _≤_, _<_}
-use mathlib.Core.Path.{_≡_, sym, ap, _∙_, subst}
+use mathlib.Core.Path.{_≡_, sym, ap, _∙_}
 use mathlib.Core.Bool.{Bool}
 use mathlib.Core.List.{List, [], _∷_}
 use native.Mathlib.Omega.{arith}
@@ -9,14 +9,11 @@ use lib.Dec.{T, leb, leb→le, eqb, eqb→eq}
 use lib.ListN.{getD}
 use lib.Pow.{pow-pos, pow-mono}
 use Rattle.rules.specs.Tests.{every}
-use Rattle.rules.specs.Links.{k, height, capacity, most, InLink}
+use Rattle.rules.specs.Links.{k, height, capacity, mostLinks, most, LinkNumber, InLink}
 use Rattle.rules.specs.Tree.{kMerger}
-use Rattle.rules.specs.Bounds.{perInsert}
 use Rattle.rules.specs.Longest.{risen, longestTake}
-use Rattle.rules.proofs.Table.{every-at, each-link}
+use Rattle.rules.proofs.Table.{every-at, at-least, in-link}
 use Rattle.rules.proofs.Sizes.{by-leb, k-power}
-use Rattle.rules.proofs.BookLaws.{number-is}
-use Rattle.rules.proofs.BoundLaws.{few-held}
 
 -- at most so much, of one to five links
 at-most-five : (f : ℕ → ℕ) (m : ℕ) → T (every (λ i. leb (f i) m) 1 5) → (i : ℕ) → 1 ≤ i → i ≤ 5 → f i ≤ m
@@ -39,12 +36,9 @@ unfolding every longestTake
 take-few = at-most-five longestTake 223488 tt
 
 -- of the last link of a queue
-pub most-few : (links : ℕ) → 1 ≤ links → links ≤ 4 → most links ≤ 17280
-most-few links low high = few-held links (subst T (sym (number-is (record { low = low; high = high }))) tt)
-
-pub most-some : (links : ℕ) → 1 ≤ links → links ≤ 4 → 8 ≤ most links
+pub most-some : {links : ℕ} → LinkNumber links → 8 ≤ most links
 unfolding every most
-most-some links low high = leb→le 8 (most links) (each-link (λ l. leb 8 (most l)) tt (record { low = low; high = high }))
+most-some = at-least most 8 tt
 
 -- ---- the fifth link
 
@@ -79,13 +73,8 @@ fifth r known {i} {j} e low high =
     eqb→eq size (capacity 5 j) (every-at (λ j. eqb size (capacity 5 j)) (getD lows r 0) (getD many r 0) level j low high) ∙ ap (λ i. capacity i j) (sym e)
 
 -- a buffer that is no S of a link that a queue has
-pub no-s : (i j : ℕ) → 1 ≤ i → i ≤ 4 → j < k i → InLink i j
-no-s i j low high less = record { link = record { low = low; high = high }; below = omega arith; few = omega (arith, k-few i low (omega arith)) }
-
--- "2n .. 6n .. 13n .. 22n"
-pub per-insert-at : (n : ℕ) {links : ℕ} → links ≡ n → getD (0 ∷ 2 ∷ 6 ∷ 13 ∷ 22 ∷ []) n 0 ≡ perInsert links
-unfolding perInsert
-per-insert-at n e = ap perInsert (sym e)
+pub no-s : (i j : ℕ) → 1 ≤ i → i ≤ mostLinks → j < k i → InLink i j
+no-s i j low high less = in-link (record { low = low; high = high }) (omega arith)
 
 -- ---- k(i) is two to the height
 

@@ -18,7 +18,6 @@ field label n = bytes label ++ decimal n
 
 -- "A queue of L links (1 to 4)": of more links no queue can be set up yet, so sizes and inserts are left out
 unfoldable pub ifThere : ℕ → List ℕ → List ℕ
-unfolding mostLinks
 ifThere links text = elim (leb links mostLinks) [ true ↦ text | false ↦ [] ]
 
 unfoldable pub sizes : ℕ → List ℕ

@@ -4,7 +4,7 @@ use Prim.Native.Nat.{_≤_}
 use native.Mathlib.Omega.{arith}
 use lib.ListN.{length}
 use borrow.Author.Needs.{needs}
-use Rattle.rules.specs.Links.{most, words}
+use Rattle.rules.specs.Links.{mostLinks, most, words}
 use Rattle.text.specs.Bytes.{bytes}
 use Rattle.limits.proofs.FieldLaws.{as-field, sizes-laid, no-sizes}
 use Rattle.limits.proofs.lay_sizes.Statement.{statement}
@@ -25,7 +25,7 @@ abbrev link : tie.After-lay-field → tie.After-at
 link c = c .before .before .before .before
 
 -- a queue can have these links, and the fields have their place
-there : (c : tie.Else1) → let s = c .before .before .args in (s .links ≤ 4) × (s .at ≤ length (s .out .now))
+there : (c : tie.Else1) → let s = c .before .before .args in (s .links ≤ mostLinks) × (s .at ≤ length (s .out .now))
 there c = (omega arith, omega arith)
 
 returns : tie.Need-returns

@@ -1,12 +1,13 @@
 -- Each factor fits, and so does their product.
 use mathlib.Core.Path.{_≡_, refl, ap, _∙_}
-use Prim.Native.Nat.{_+_, _≤_}
+use Prim.Native.Nat.{_+_, _^_, _≤_}
 use native.Mathlib.Omega.{arith}
 use native.Mathlib.Nat.{mul-le-mul}
 use borrow.Author.Needs.{needs}
 use Rattle.rules.specs.Links.{height, most}
 use Rattle.rules.specs.Bounds.{perPacking}
-use Rattle.limits.proofs.SizeLaws.{height-few, most-few}
+use Rattle.rules.proofs.Table.{most-few}
+use Rattle.limits.proofs.SizeLaws.{height-few}
 use Rattle.limits.proofs.per_packing.Statement.{statement}
 use Rattle.limits.proofs.per_packing.Tie as tie
 
@@ -29,8 +30,8 @@ most-requires c κs = search needs
 mul-result : tie.Need-mul-result
 mul-result c =
     let links = c .before .before .before .args .links in
-    let deep : links + c .before .before .height .result ≤ 9 = omega (arith, c .before .before .height .ensures, height-few links (omega arith) (omega arith)) in
-    let many : c .most .result ≤ 17280 = omega (arith, most-is c, most-few links (omega arith) (omega arith)) in
+    let deep : links + c .before .before .height .result ≤ 10 = omega (arith, c .before .before .height .ensures, height-few links (omega arith) (omega arith)) in
+    let many : c .most .result ≤ 2 ^ 20 = omega (arith, most-is c, most-few (c .before .before .before .pre)) in
     omega (arith, mul-le-mul deep many)
 
 returns : tie.Need-returns
