@@ -6,7 +6,6 @@ use native.Mathlib.Omega.{arith}
 use lib.ListN.{length, get_or, length-replicate, get_or-replicate}
 use lib.Dec.{T}
 use Rattle.rules.specs.Links.{s, k, height, levels, first, number_of_s, buffer_count}
-use Rattle.rules.specs.Tests.{◌and◌}
 use Rattle.rules.specs.Tree.{Buffers, Tree, exhausted, buffer, merger, entries, perfect, k_merger, links_from, tree_of}
 use Rattle.rules.specs.Merge.{Step}
 use Rattle.rules.specs.Fill.{untouched}
@@ -122,7 +121,7 @@ unfolding links_from
 k_merger_within zero a i low high = absurd (omega arith)
 k_merger_within (suc n) a i low high =
     by_leb i a (λ b. Input (k_merger i) (links_from a (suc n)))
-    (λ q. let e : i ≡ a = omega arith in rw e the_first)
+    (λ q. let e : i ≡ a = omega arith in subst (λ x. Input (k_merger x) (links_from a (suc n))) (sym e) the_first)
     (λ q. within_second (k_merger_within n (suc a) i q (omega arith)))
 
 module _ (links i : ℕ) (low : 1 ≤ i) (high : i ≤ links) where

@@ -8,7 +8,7 @@ use borrow.Author.Tests.{le-leb}
 use lib.ListN.{length, get_or, replicate, get_or-map}
 use lib.Dec.{T, leb, eqb, leb→le, le→leb, eqb→eq}
 use Rattle.rules.specs.Links.{s, k, capacity, first, number_of_s, buffer_count, most_links, most, LinkNumber}
-use Rattle.rules.specs.Tests.{◌and◌, ◌or◌, every}
+use Rattle.rules.specs.Tests.{◌and◌, every}
 use Rattle.rules.specs.Tree.{Buffers, Tree, exhausted, buffer, merger, k_merger, links_from, tree_of}
 use Rattle.rules.specs.Take.{held_in, insertion}
 use Rattle.rules.specs.Queue.{Queue, counter, held_from, held}

@@ -1,5 +1,5 @@
 -- Laying a run along a way: nothing is lost, what it changes in the account, and that it keeps the order.
-use Prim.Native.Nat.{ℕ, zero, suc, ◌+◌, ◌-◌, ◌*◌, ◌≤◌, ◌<◌}
+use Prim.Native.Nat.{ℕ, zero, suc, ◌+◌, ◌*◌, ◌≤◌, ◌<◌}
 use mathlib.Core.Path.{◌≡◌, refl, ap, ◌∙◌}
 use mathlib.Core.List.{List, [], ◌∷◌, ◌++◌}
 use native.Mathlib.Omega.{arith}
@@ -126,7 +126,7 @@ module _ (key : ℕ → ℕ) where
   unfolding last_key
   no_later_last l [] run h = l
   no_later_last l (x ∷ xs) [] h = absurd h
-  no_later_last l (x ∷ xs) (r ∷ run) h = no_later_last h.0 xs run h.1
+  no_later_last {low = low} {low' = low'} l (x ∷ xs) (r ∷ run) h = no_later_last {low = key r} {low' = key x} h.0 xs run h.1
 
   -- the front of an ascending run ascends
   pub ascends_take : (low n : ℕ) (es : List ℕ) → Ascends key low es → Ascends key low (take n es)

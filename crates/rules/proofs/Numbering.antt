@@ -183,6 +183,7 @@ next_end i n = let e : suc i + n ≡ i + suc n = omega arith in rw e
 -- all numbers of so many links from link i on stand from A(i)'s on and before those of the link behind them
 pub links_range : (i n : ℕ) → 0 < i → {m : ℕ} → Stands m (links_from i n) → (first i ≤ m) × (m < first (i + n))
 unfolding links_from
+links_range i zero link {m = m} st = elim st [ ]
 links_range i (suc n) link output = (omega arith, omega (arith, first_further (suc i) n (omega arith), next_end i n, first_next i link, k_some i))
 links_range i (suc n) link (in_first st) = let r = k_merger_range i link st in (omega (arith, r.0), omega (arith, r.1, first_further (suc i) n (omega arith), next_end i n))
 links_range i (suc n) link (in_second st) = let r = links_range (suc i) n (omega arith) st in (omega (arith, r.0, first_next i link), omega (arith, r.1, next_end i n))

@@ -91,10 +91,13 @@ module _ (key : ℕ → ℕ) (links i j : ℕ) (link : 0 < i) (high : i ≤ link
       let r = links_range i (suc n) link st in
       (take_all_frame key before bs).same m (λ e. omega (arith, r.0, first_some i link)) (λ st'. omega (arith, r.0, (before_least st').1)))
 
+  split_links : (g : ℕ → ℕ → ℕ) (b : Buffers) → weight_in g (links_from 1 links) 0 b ≡ weight_in g before 0 b + weight_in g behind (i - 1) b
+  split_links g b = let e : 0 + (i - 1) ≡ i - 1 = omega arith in rw (whole, at_i, e) at (links_weight_lem g (i - 1) 1 (suc n) 0 b)
+
   -- what the tree weighs, the links before i and those from i on weigh
   split : (g : ℕ → ℕ → ℕ) (b : Buffers) → weight_in g tree 0 b ≡ weight_in g before 0 b + weight_in g behind (i - 1) b
   unfolding tree_of
-  split g b = let e : 0 + (i - 1) ≡ i - 1 = omega arith in rw (whole, at_i, e) at (links_weight_lem g (i - 1) 1 (suc n) 0 b)
+  split g b = split_links g b
 
   behind_weighs : (g : ℕ → ℕ → ℕ) → weight_in g behind (i - 1) emptied.buffers ≡ weight_in g behind (i - 1) bs
   behind_weighs g = weight_seen g behind (i - 1) emptied.buffers ∙ ap (weight g behind (i - 1)) behind_same ∙ sym (weight_seen g behind (i - 1) bs)
@@ -353,10 +356,13 @@ module _ (key : ℕ → ℕ) (links i j : ℕ) (link : 0 < i) (high : i ≤ link
     unfolding in_order
     tree_ordered = ordered_says key tree 0 bs (and_two (ascends key 0 (insertion bs)) (ordered key tree 0 bs) holds)
 
+    parts : Ordered key (links_from 1 links) 0 (view (links_from 1 links) bs) → Ordered key before 0 (view before bs) × Ordered key behind 0 (view behind bs)
+    parts h = let o = links_ordered key (i - 1) 1 (suc n) 0 bs (rw whole h) in (o.0, rw at_i at o.1)
+
     -- in order are the links before i, and those from i on
     parts_ordered : Ordered key before 0 (view before bs) × Ordered key behind 0 (view behind bs)
     unfolding tree_of
-    parts_ordered = let o = links_ordered key (i - 1) 1 (suc n) 0 bs (rw whole tree_ordered) in (o.0, rw at_i at o.1)
+    parts_ordered = parts tree_ordered
 
     before_in_order : T (in_order key before bs)
     unfolding in_order

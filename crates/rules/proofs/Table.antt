@@ -62,7 +62,7 @@ module _ (i low n : ℕ) (known : T (every (alike i low) low n)) {i' j : ℕ} (h
   pub slot_at : start i + offset i low + capacity i low * (j - low) ≡ start i' + offset i' j
   unfolding alike
   slot_at =
-      rw of (eqb→eq (start i + offset i low + capacity i low * (j - low)) (start i + offset i j) (and_two (eqb (capacity i low) (capacity i j)) (eqb (start i + offset i low + capacity i low * (j - low)) (start i + offset i j)) here))
+      subst (λ x. start i + offset i low + capacity i low * (j - low) ≡ start x + offset x j) (sym of) (eqb→eq (start i + offset i low + capacity i low * (j - low)) (start i + offset i j) (and_two (eqb (capacity i low) (capacity i j)) (eqb (start i + offset i low + capacity i low * (j - low)) (start i + offset i j)) here))
 
 -- the same for a level that begins with buffer 0
 pub slot_from : (i n : ℕ) → T (every (alike i 0) 0 n) → {i' j : ℕ} → InLink i' j → i' ≡ i → j < n → start i + offset i 0 + capacity i 0 * j ≡ start i' + offset i' j

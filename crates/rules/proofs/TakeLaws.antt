@@ -1,5 +1,5 @@
 -- Takes: nothing is lost, every merge step is paid by an entry that rises, and entries come out in order.
-use Prim.Native.Nat.{ℕ, zero, suc, ◌+◌, ◌-◌, ◌*◌, ◌<◌}
+use Prim.Native.Nat.{ℕ, zero, suc, ◌+◌, ◌*◌, ◌<◌}
 use mathlib.Core.Path.{◌≡◌, refl, ap, ◌∙◌}
 use mathlib.Core.List.{List, []}
 use native.Mathlib.Omega.{arith}
@@ -153,6 +153,7 @@ module _ (key : ℕ → ℕ) (t : Tree) (bs : Buffers) (b : Beside t (length bs)
 -- where nothing stands in a tree, each of its buffers is empty
 pub none_stands : (t : Tree) (bs : Buffers) → held_in t bs ≡ 0 → {m : ℕ} → Stands m t → get_or bs m [] ≡ []
 unfolding held_in
+none_stands exhausted bs h {m = m} st = elim st [ ]
 none_stands (buffer n c) bs h itself = no_entries (get_or bs n []) h
 none_stands (merger n c one two) bs h output = no_entries (get_or bs n []) (omega arith)
 none_stands (merger n c one two) bs h (in_first s) = none_stands one bs (omega arith) s

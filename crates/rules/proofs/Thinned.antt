@@ -1,11 +1,11 @@
 -- Buffers that were emptied, or left as they were: the order rule holds on. And links in order, in front and behind.
-use Prim.Native.Nat.{ℕ, zero, suc, ◌+◌, ◌-◌, ◌≤◌}
+use Prim.Native.Nat.{ℕ, zero, suc, ◌+◌, ◌≤◌}
 use mathlib.Core.Path.{◌≡◌}
 use mathlib.Core.Logic.{◌⊎◌, inl, inr}
 use mathlib.Core.List.{List, []}
 use native.Mathlib.Omega.{arith}
 use lib.ListN.{get_or}
-use Rattle.rules.specs.Links.{s, first}
+use Rattle.rules.specs.Links.{first}
 use Rattle.rules.specs.Tree.{Buffers, Tree, exhausted, buffer, merger, entries, links_from}
 use Rattle.rules.specs.Order.{last_key}
 use Rattle.rules.proofs.Numbers.{Stands, itself, output, in_first, in_second}

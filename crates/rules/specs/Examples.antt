@@ -2,8 +2,7 @@
 use Rattle.std.specs.Prelude.{ℕ, zero, suc, ◌+◌, ◌*◌, ◌^◌, ◌≡◌, refl, Bool, true, false, List, [], ◌∷◌, ◌++◌, map, length, replicate}
 use Rattle.rules.specs.Answers.{number_of}
 use Rattle.rules.specs.Entries.{tick}
-use Rattle.rules.specs.Queue.{Queue}
-use Rattle.rules.specs.Calls.{Lent, Outcome, queue_of, setup, insert, take, look, held_call, audit, zeros, afterwards}
+use Rattle.rules.specs.Calls.{Lent, Outcome, setup, insert, take, look, held_call, audit, zeros, afterwards}
 
 pub data Order : Type 0 where
   setup_of : ℕ → Order

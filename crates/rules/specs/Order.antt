@@ -1,5 +1,5 @@
 -- The order rule, as a test that computes and as a statement.
-use Rattle.std.specs.Prelude.{ℕ, ◌≤◌, Bool, false, List, [], ◌∷◌, leb}
+use Rattle.std.specs.Prelude.{ℕ, Bool, List, [], ◌∷◌, leb}
 use Rattle.std.proofs.Math.Bool.{true}
 use Rattle.rules.specs.Tree.{Buffers, Tree, exhausted, buffer, merger, entries}
 use Rattle.rules.specs.Take.{insertion}

@@ -2,7 +2,7 @@
 -- Of each call: number, word, steps, the counters c, and how many entries each buffer has, I first.
 use Rattle.std.specs.Prelude.{◌≡◌, refl, List, [], ◌∷◌, map, ℕ}
 use Rattle.rules.specs.Calls.{zeros}
-use Rattle.rules.specs.Examples.{Order, setup_of, insert_of, take_it, look_at, held_now, audit_it, Shown, session, everything_shown}
+use Rattle.rules.specs.Examples.{Order, setup_of, insert_of, take_it, look_at, held_now, audit_it, session, everything_shown}
 
 unfoldable pub orders1 : List Order
 orders1 =

@@ -1,10 +1,9 @@
 -- The sweep to a link, and packing.
-use Rattle.std.specs.Prelude.{ℕ, zero, suc, ◌+◌, ◌-◌, ◌/◌, Bool, true, false, List, [], ◌∷◌, ◌++◌, map, length, get_or, set, take, drop, replicate}
+use Rattle.std.specs.Prelude.{ℕ, zero, suc, ◌+◌, ◌-◌, ◌/◌, List, [], ◌∷◌, ◌++◌, map, length, get_or, set, take, drop, replicate}
 use Rattle.rules.specs.Links.{s, k, height, first, number_of_s, sum}
-use Rattle.rules.specs.Tree.{Buffers, links_from, tree_of}
+use Rattle.rules.specs.Tree.{Buffers, links_from}
 use Rattle.rules.specs.Merge.{join}
-use Rattle.rules.specs.Take.{Taken, take_all}
-use Rattle.rules.specs.Queue.{Queue, key_of, counter}
+use Rattle.rules.specs.Take.{take_all}
 
 -- ---- the path
 

@@ -3,7 +3,7 @@ use Prim.Native.Nat.{ℕ, zero, suc, ◌+◌}
 use Rattle.std.specs.Prelude.{List, [], ◌∷◌, ◌++◌, length, get_or, set}
 use Rattle.rules.specs.Tree.{Buffers, Tree, exhausted, buffer, merger, entries, put}
 use Rattle.rules.specs.Merge.{Step, stop, move, merge_step}
-use Rattle.rules.specs.Fill.{Filled, untouched, if_empty, fill}
+use Rattle.rules.specs.Fill.{Filled, if_empty, fill}
 
 -- the insertion buffer I has number 0
 unfoldable pub insertion : Buffers → List ℕ

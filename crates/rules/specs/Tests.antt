@@ -1,5 +1,5 @@
 -- Tests one after the other.
-use Rattle.std.specs.Prelude.{ℕ, zero, suc, ◌+◌, Bool, true, false}
+use Rattle.std.specs.Prelude.{ℕ, zero, suc, Bool, true, false}
 
 infixr 30 ◌and◌
 -- the second is tried only where the first holds

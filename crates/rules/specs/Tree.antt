@@ -1,6 +1,6 @@
 -- The tree of buffers. A queue's buffers are one binary tree with A(1) at its root; I stands outside it.
-use Rattle.std.specs.Prelude.{ℕ, zero, suc, ◌+◌, ◌*◌, ◌^◌, max, List, [], ◌∷◌, length, get_or, set}
-use Rattle.rules.specs.Links.{s, k, levels, first, capacity}
+use Rattle.std.specs.Prelude.{ℕ, zero, suc, ◌+◌, ◌*◌, max, List, [], ◌∷◌, get_or, set}
+use Rattle.rules.specs.Links.{s, levels, first, capacity}
 
 -- every buffer's entries, by the buffer's number
 abbrev pub Buffers : Type 0

@@ -1,10 +1,12 @@
 // The links' sizes, and what a call answers. Document 01's rules stand in specs/.
+#![tactic(auto)]
+
 ghost use Rattle.std.specs.Prelude.{◌≡◌, ◌+◌, ◌≤◌, ◌<◌};
 ghost use Rattle.rules.specs.Answers.{number_of};
 ghost use Rattle.rules.specs.Links.{k, s, first, capacity, start, offset, most, most_links, words, LinkNumber, InLink};
 
 // A link, by its number from 1 on. Whoever needs a size asks here.
-#[derive(Drop)]
+#[derive(Clone, Copy)]
 pub struct Link {
     pub i: usize,
 }
@@ -165,11 +167,11 @@ impl Link {
 }
 
 // By what a queue orders its entries. There is one order today, so that nothing is to be said.
-#[derive(Drop)]
+#[derive(Clone, Copy)]
 pub struct Rule {}
 
 // What a call answers.
-#[derive(Drop)]
+#[derive(Clone, Copy)]
 pub enum Answer {
     Done,
     NoSuchLinks,

@@ -6,57 +6,57 @@ use Rattle.rules.proofs.Table.{alike, size_at, below_end}
 use Rattle.rules.proofs.Link.capacity.Statement.{statement}
 use Rattle.rules.proofs.Link.capacity.Tie as tie
 
-returns : tie.Need-returns
+returns-in-0-to-1-j : tie.Need-returns-in-0-to-1-j
 unfolding every alike k
-returns c = size_at 2 0 2 tt c.before.before.requires (omega arith) (omega arith) (omega arith)
+returns-in-0-to-1-j c = size_at 2 0 2 tt c.requires (omega arith) (omega arith) (omega arith)
 
-returns-2 : tie.Need-returns-2
+returns-in-2-to-3 : tie.Need-returns-in-2-to-3
 unfolding every alike k
-returns-2 c = size_at 2 2 2 tt c.before.before.before.requires (omega arith) (omega arith) (omega arith)
+returns-in-2-to-3 c = size_at 2 2 2 tt c.requires (omega arith) (omega arith) (omega arith)
 
-returns-3 : tie.Need-returns-3
+returns-in_default-j : tie.Need-returns-in_default-j
 unfolding every alike k
-returns-3 c = size_at 2 4 4 tt c.before.before.before.requires (omega arith) (omega arith) (below_end 2 c.before.before.before.requires (omega arith))
+returns-in_default-j c = size_at 2 4 4 tt c.requires (omega arith) (omega arith) (below_end 2 c.requires (omega arith))
 
-returns-4 : tie.Need-returns-4
+returns-in-0-to-1-j-2 : tie.Need-returns-in-0-to-1-j-2
 unfolding every alike k
-returns-4 c = size_at 3 0 2 tt c.before.before.requires (omega arith) (omega arith) (omega arith)
+returns-in-0-to-1-j-2 c = size_at 3 0 2 tt c.requires (omega arith) (omega arith) (omega arith)
 
-returns-5 : tie.Need-returns-5
+returns-in-2-to-3-j : tie.Need-returns-in-2-to-3-j
 unfolding every alike k
-returns-5 c = size_at 3 2 2 tt c.before.before.before.requires (omega arith) (omega arith) (omega arith)
+returns-in-2-to-3-j c = size_at 3 2 2 tt c.requires (omega arith) (omega arith) (omega arith)
 
-returns-6 : tie.Need-returns-6
+returns-in-4-to-7 : tie.Need-returns-in-4-to-7
 unfolding every alike k
-returns-6 c = size_at 3 4 4 tt c.before.before.before.before.requires (omega arith) (omega arith) (omega arith)
+returns-in-4-to-7 c = size_at 3 4 4 tt c.requires (omega arith) (omega arith) (omega arith)
 
-returns-7 : tie.Need-returns-7
+returns-in_default-j-2 : tie.Need-returns-in_default-j-2
 unfolding every alike k
-returns-7 c = size_at 3 8 8 tt c.before.before.before.before.requires (omega arith) (omega arith) (below_end 3 c.before.before.before.before.requires (omega arith))
+returns-in_default-j-2 c = size_at 3 8 8 tt c.requires (omega arith) (omega arith) (below_end 3 c.requires (omega arith))
 
-returns-8 : tie.Need-returns-8
+returns-in-0-to-1 : tie.Need-returns-in-0-to-1
 unfolding every alike k
-returns-8 c = size_at 1 0 4 tt c.before.before.requires (omega arith) (omega arith) (below_end 1 c.before.before.requires (omega arith))
+returns-in-0-to-1 c = size_at 1 0 4 tt c.requires (omega arith) (omega arith) (below_end 1 c.requires (omega arith))
 
-returns-9 : tie.Need-returns-9
+returns-in-0-to-1-j-3 : tie.Need-returns-in-0-to-1-j-3
 unfolding every alike k
-returns-9 c = size_at 4 0 2 tt c.before.before.before.requires (omega arith) (omega arith) (omega arith)
+returns-in-0-to-1-j-3 c = size_at 4 0 2 tt c.requires (omega arith) (omega arith) (omega arith)
 
-returns-10 : tie.Need-returns-10
+returns-in-2-to-3-j-2 : tie.Need-returns-in-2-to-3-j-2
 unfolding every alike k
-returns-10 c = size_at 4 2 2 tt c.before.before.before.before.requires (omega arith) (omega arith) (omega arith)
+returns-in-2-to-3-j-2 c = size_at 4 2 2 tt c.requires (omega arith) (omega arith) (omega arith)
 
-returns-11 : tie.Need-returns-11
+returns-in-4-to-7-j : tie.Need-returns-in-4-to-7-j
 unfolding every alike k
-returns-11 c = size_at 4 4 4 tt c.before.before.before.before.before.requires (omega arith) (omega arith) (omega arith)
+returns-in-4-to-7-j c = size_at 4 4 4 tt c.requires (omega arith) (omega arith) (omega arith)
 
-returns-12 : tie.Need-returns-12
+returns-in-8-to-15 : tie.Need-returns-in-8-to-15
 unfolding every alike k
-returns-12 c = size_at 4 8 8 tt c.before.before.before.before.before.before.requires (omega arith) (omega arith) (omega arith)
+returns-in-8-to-15 c = size_at 4 8 8 tt c.requires (omega arith) (omega arith) (omega arith)
 
-returns-13 : tie.Need-returns-13
+returns-in_default-j-3 : tie.Need-returns-in_default-j-3
 unfolding every alike k
-returns-13 c = size_at 4 16 16 tt c.before.before.before.before.before.before.requires (omega arith) (omega arith) (below_end 4 c.before.before.before.before.before.before.requires (omega arith))
+returns-in_default-j-3 c = size_at 4 16 16 tt c.requires (omega arith) (omega arith) (below_end 4 c.requires (omega arith))
 
 pub capacity_spec : {M : Type 1} → statement M
-capacity_spec = tie.close (tie.spec returns returns-2 returns-3 returns-4 returns-5 returns-6 returns-7 returns-8 returns-9 returns-10 returns-11 returns-12 returns-13)
+capacity_spec = tie.close (tie.spec returns-in-0-to-1-j returns-in-2-to-3 returns-in_default-j returns-in-0-to-1-j-2 returns-in-2-to-3-j returns-in-4-to-7 returns-in_default-j-2 returns-in-0-to-1 returns-in-0-to-1-j-3 returns-in-2-to-3-j-2 returns-in-4-to-7-j returns-in-8-to-15 returns-in_default-j-3)

@@ -5,21 +5,21 @@ use Rattle.rules.proofs.Table.{at_link}
 use Rattle.rules.proofs.Link.s.Statement.{statement}
 use Rattle.rules.proofs.Link.s.Tie as tie
 
-returns : tie.Need-returns
+returns-in-2 : tie.Need-returns-in-2
 unfolding s
-returns c = at_link s 2 c.before.args.self.i (omega arith)
+returns-in-2 c = at_link s 2 c.args.self.i (omega arith)
 
-returns-2 : tie.Need-returns-2
+returns-in-3 : tie.Need-returns-in-3
 unfolding s
-returns-2 c = at_link s 3 c.before.args.self.i (omega arith)
+returns-in-3 c = at_link s 3 c.args.self.i (omega arith)
 
-returns-3 : tie.Need-returns-3
+returns-in-0-to-1 : tie.Need-returns-in-0-to-1
 unfolding s
-returns-3 c = at_link s 1 c.before.before.args.self.i (omega arith)
+returns-in-0-to-1 c = at_link s 1 c.args.self.i (omega arith)
 
-returns-4 : tie.Need-returns-4
+returns-in_default : tie.Need-returns-in_default
 unfolding s
-returns-4 c = at_link s 4 c.before.before.args.self.i (omega arith)
+returns-in_default c = at_link s 4 c.args.self.i (omega arith)
 
-pub s-spec : {M : Type 1} → statement M
-s-spec = tie.close (tie.spec returns returns-2 returns-3 returns-4)
+pub s_spec : {M : Type 1} → statement M
+s_spec = tie.close (tie.spec returns-in-2 returns-in-3 returns-in-0-to-1 returns-in_default)
