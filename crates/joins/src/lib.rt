@@ -1,4 +1,6 @@
 // The joining of two runs, and a part of it, under C names: for compare/ and bench/ alone, in no archive that is shipped.
+#![tactic(auto)]
+
 ghost use Rattle.rules.specs.Entries.{the_rule, key_by};
 ghost use Rattle.joins.specs.Lent.{Joined, Parted};
 

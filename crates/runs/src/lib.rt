@@ -1,4 +1,6 @@
 // Runs: merging, joining and laying of words that are lent. For any words, sorted or not.
+#![tactic(auto)]
+
 ghost use Rattle.std.specs.Prelude.{◌≡◌, ◌+◌, ◌≤◌, ◌<◌, min, leb, length};
 ghost use Rattle.rules.specs.Entries.{key_by};
 ghost use Rattle.runs.specs.Until.{until_end};
@@ -162,7 +164,7 @@ pub fn lay(array: &mut [u64], at: usize, from: &[u64])
 }
 
 // How far merge steps went: the entries that were moved in all, and those of the first input.
-#[derive(Drop)]
+#[derive(Clone, Copy)]
 pub struct Run {
     pub moved: usize,
     pub first: usize,

@@ -9,47 +9,47 @@ use borrow.Author.Rules.{rules}
 use Rattle.joins.proofs.joins_join.Statement.{statement}
 use Rattle.joins.proofs.joins_join.Tie as tie
 
-returns : tie.Need-returns
-returns c = not_joined _ _ _ _ _ (omega arith)
+returns-then-out-xs : tie.Need-returns-then-out-xs
+returns-then-out-xs c = not_joined _ _ _ _ _ (omega arith)
 
-sub-if2 : tie.Need-overflow-sub-if2
-sub-if2 c = search rules
+overflow_sub-out : tie.Need-overflow_sub-out
+overflow_sub-out c = search rules
 
-returns-2 : tie.Need-returns-2
-returns-2 c = not_joined _ _ _ _ _ (omega arith)
+returns-then-out-xs-2 : tie.Need-returns-then-out-xs-2
+returns-then-out-xs-2 c = not_joined _ _ _ _ _ (omega arith)
 
-join-requires : tie.Need-join-requires
-join-requires c κs = let s = c.before.before.before.before.before.before.before.args in omega (arith, until_most (key_by (record {})) (length s.xs.now + length s.ys.now) s.xs.now s.ys.now)
+join-back-requires : tie.Need-join-back-requires
+join-back-requires c κs = let s = c.args in omega (arith, until_most (key_by (record {})) (length s.xs.now + length s.ys.now) s.xs.now s.ys.now)
 
 copy-requires : tie.Need-copy-requires
 copy-requires c κs = search rules
 
-same_length : tie.Need-same-length
-same_length c = search rules
+shape_of-out-then-many-rest : tie.Need-shape_of-out-then-many-rest
+shape_of-out-then-many-rest c = search rules
 
-same-length-2 : tie.Need-same-length-2
-same-length-2 c = search rules
+shape_of-rest : tie.Need-shape_of-rest
+shape_of-rest c = search rules
 
-returns-3 : tie.Need-returns-3
-returns-3 c = let j = c.before.before.before.before.before.before.before in joined_copied _ j.join.ensures (omega arith) _ _ (omega arith) c.before.before.copy.ensures
+returns-then-many-rest : tie.Need-returns-then-many-rest
+returns-then-many-rest c = let j = c.before.before.before.before.before.before.before in joined_copied _ j.join-back.ensures (omega arith) _ _ (omega arith) c.copy.ensures
 
-same-length-3 : tie.Need-same-length-3
-same-length-3 c = search rules
+shape_of-out-else-many-rest : tie.Need-shape_of-out-else-many-rest
+shape_of-out-else-many-rest c = search rules
 
-returns-4 : tie.Need-returns-4
-returns-4 c = joined_left _ c.before.before.before.join.ensures (omega arith) _ (omega arith)
+returns-else-many-rest : tie.Need-returns-else-many-rest
+returns-else-many-rest c = joined_left _ c.join-back.ensures (omega arith) _ (omega arith)
 
-pub joins-join-spec : {M : Type 1} → statement M
-joins-join-spec =
+pub joins_join_spec : {M : Type 1} → statement M
+joins_join_spec =
     tie.close
     (tie.spec
-    returns
-    sub-if2
-    returns-2
-    join-requires
+    returns-then-out-xs
+    overflow_sub-out
+    returns-then-out-xs-2
+    join-back-requires
     copy-requires
-    same_length
-    same-length-2
-    returns-3
-    same-length-3
-    returns-4)
+    shape_of-out-then-many-rest
+    shape_of-rest
+    returns-then-many-rest
+    shape_of-out-else-many-rest
+    returns-else-many-rest)

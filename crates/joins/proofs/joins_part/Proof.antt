@@ -1,31 +1,31 @@
 -- The runs have enough, or nothing is done.
 use native.Mathlib.Omega.{arith}
-use mathlib.Core.Logic.{⊎_elim}
 use Prim.Native.Nat.{◌+◌, ◌≤◌}
 use lib.ListN.{length}
 use Rattle.joins.proofs.LentLaws.{not_parted, parted}
 use borrow.Author.Rules.{rules}
+use Rattle.joins.proofs.joins_part.Lts.{then-xs-out+else-ys-out, else-xs-out}
 use Rattle.joins.proofs.joins_part.Statement.{statement}
 use Rattle.joins.proofs.joins_part.Tie as tie
 
-sub-if2 : tie.Need-overflow-sub-if2
-sub-if2 c = search rules
+overflow_sub-out : tie.Need-overflow_sub-out
+overflow_sub-out c = search rules
 
-returns : tie.Need-returns
-returns c = not_parted _ _ _ _ (omega arith)
+returns-then-ys-out : tie.Need-returns-then-ys-out
+returns-then-ys-out c = not_parted _ _ _ _ (omega arith)
 
 -- both ways to the call say it
-enough : (c : tie.Joined1) → let s = c.before.before.before.before.args in length s.out.now ≤ length s.xs.now + length s.ys.now
-enough c = ⊎_elim (λ w. omega (arith, w.0.taken, w.1.left)) (λ w. omega (arith, w.left)) c.if1.branch
+enough : (c : tie.Joined-xs-out) → let s = c.args in length s.out.now ≤ length s.xs.now + length s.ys.now
+enough c = elim c.if-xs-out.branch [ then-xs-out+else-ys-out w ↦ omega (arith, w.if-xs-out.true, w.if-ys-out.false) | else-xs-out w ↦ omega (arith, w.if-xs-out.false) ]
 
 part-requires : tie.Need-part-requires
 part-requires c κs = enough c.before
 
-same_length : tie.Need-same-length
-same_length c = search rules
+shape_of-out : tie.Need-shape_of-out
+shape_of-out c = search rules
 
-returns-2 : tie.Need-returns-2
-returns-2 c = parted _ c.before.before.part.ensures (enough c.before.before.before.before)
+returns : tie.Need-returns
+returns c = parted _ c.part.ensures (enough c.before.before.before.before)
 
-pub joins-part-spec : {M : Type 1} → statement M
-joins-part-spec = tie.close (tie.spec sub-if2 returns part-requires same_length returns-2)
+pub joins_part_spec : {M : Type 1} → statement M
+joins_part_spec = tie.close (tie.spec overflow_sub-out returns-then-ys-out part-requires shape_of-out returns)

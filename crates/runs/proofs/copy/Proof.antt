@@ -6,55 +6,55 @@ use Rattle.runs.proofs.LayingLaws.{Copying, copy_start, copy_more, copy_all}
 use Rattle.runs.proofs.copy.Statement.{statement}
 use Rattle.runs.proofs.copy.Tie as tie
 
-abbrev invariant-loop : tie.invariant-loop
-invariant-loop from to₀ n₀ to n = Copying from to₀ to n
+abbrev invariant-loop-n : tie.invariant-loop-n
+invariant-loop-n from to₀ n₀ to n = Copying from to₀ to n
 
-abbrev decreases-loop : tie.decreases-loop
-decreases-loop from to₀ n₀ to n = length from - n
+abbrev decreases-loop-n : tie.decreases-loop-n
+decreases-loop-n from to₀ n₀ to n = length from - n
 
-loop-holds : tie.Need-loop-init invariant-loop decreases-loop
-loop-holds c = copy_start _ _
+loop-n-init : tie.Need-loop-n-init invariant-loop-n decreases-loop-n
+loop-n-init c = copy_start _ _
 
-mul-to : tie.Need-overflow-mul-to invariant-loop decreases-loop
-mul-to c = omega arith
+offset_bounds-from-n : tie.Need-offset_bounds-from-n invariant-loop-n decreases-loop-n
+offset_bounds-from-n c = omega arith
 
-shared-slice-read-to : tie.Need-shared-slice-read-to invariant-loop decreases-loop
-shared-slice-read-to c = omega arith
+bounds-from-n : tie.Need-bounds-from-n invariant-loop-n decreases-loop-n
+bounds-from-n c = omega arith
 
-mul-to-2 : tie.Need-overflow-mul-to-2 invariant-loop decreases-loop
-mul-to-2 c = omega arith
+offset_bounds-to-n : tie.Need-offset_bounds-to-n invariant-loop-n decreases-loop-n
+offset_bounds-to-n c = omega arith
 
-slice-write-to : tie.Need-slice-write-to invariant-loop decreases-loop
-slice-write-to c = omega arith
+bounds-to-n : tie.Need-bounds-to-n invariant-loop-n decreases-loop-n
+bounds-to-n c = omega arith
 
-add-n : tie.Need-overflow-add-n invariant-loop decreases-loop
-add-n c = omega arith
+overflow_add-n : tie.Need-overflow_add-n invariant-loop-n decreases-loop-n
+overflow_add-n c = omega arith
 
-loop-less : tie.Need-loop-smaller invariant-loop decreases-loop
-loop-less c = omega arith
+loop-n-smaller : tie.Need-loop-n-smaller invariant-loop-n decreases-loop-n
+loop-n-smaller c = omega arith
 
-loop-again : tie.Need-loop-preserved invariant-loop decreases-loop
-loop-again c = copy_more _ _ _ _ c.before.before.loop.invariant (omega arith) (omega arith)
+loop-n-preserved : tie.Need-loop-n-preserved invariant-loop-n decreases-loop-n
+loop-n-preserved c = copy_more _ _ _ _ c.loop-n.invariant (omega arith) (omega arith)
 
-same_length : tie.Need-same-length invariant-loop decreases-loop
-same_length c = c.before.loop.invariant.sized
+shape_of-to : tie.Need-shape_of-to invariant-loop-n decreases-loop-n
+shape_of-to c = c.loop-n.invariant.sized
 
-returns : tie.Need-returns invariant-loop decreases-loop
-returns c = copy_all _ _ _ _ c.before.loop.invariant (omega arith)
+returns : tie.Need-returns invariant-loop-n decreases-loop-n
+returns c = copy_all _ _ _ _ c.loop-n.invariant (omega arith)
 
 pub copy_spec : {M : Type 1} → statement M
 copy_spec =
     tie.close
     (tie.spec
-    invariant-loop
-    decreases-loop
-    loop-holds
-    mul-to
-    shared-slice-read-to
-    mul-to-2
-    slice-write-to
-    add-n
-    loop-less
-    loop-again
-    same_length
+    invariant-loop-n
+    decreases-loop-n
+    loop-n-init
+    offset_bounds-from-n
+    bounds-from-n
+    offset_bounds-to-n
+    bounds-to-n
+    overflow_add-n
+    loop-n-smaller
+    loop-n-preserved
+    shape_of-to
     returns)

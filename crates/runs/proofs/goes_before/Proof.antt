@@ -5,17 +5,17 @@ use borrow.Author.Rules.{rules}
 use Rattle.runs.proofs.goes_before.Statement.{statement}
 use Rattle.runs.proofs.goes_before.Tie as tie
 
-goes-first-requires : tie.Need-goes-first-requires
-goes-first-requires c κs = search rules
+goes_first-requires : tie.Need-goes_first-requires
+goes_first-requires c κs = search rules
+
+returns-then-first : tie.Need-returns-then-first
+returns-then-first c = before_first (key_by _) _ _ _ _ c.if-first.true c.goes_first.ensures
+
+goes_first-requires-2 : tie.Need-goes_first-requires-2
+goes_first-requires-2 c κs = search rules
 
 returns : tie.Need-returns
-returns c = before_first (key_by _) _ _ _ _ c.before.if1.true c.goes_first.ensures
+returns c = before_second (key_by _) _ _ _ _ c.if-first.false c.goes_first-2.ensures
 
-goes-first-requires-2 : tie.Need-goes-first-requires-2
-goes-first-requires-2 c κs = search rules
-
-returns-2 : tie.Need-returns-2
-returns-2 c = before_second (key_by _) _ _ _ _ c.before.if1.false c.goes-first2.ensures
-
-pub goes-before-spec : {M : Type 1} → statement M
-goes-before-spec = tie.close (tie.spec goes-first-requires returns goes-first-requires-2 returns-2)
+pub goes_before_spec : {M : Type 1} → statement M
+goes_before_spec = tie.close (tie.spec goes_first-requires returns-then-first goes_first-requires-2 returns)

@@ -8,5 +8,5 @@ returns : tie.Need-returns
 unfolding key_by
 returns c = refl
 
-pub goes-first-spec : {M : Type 1} → statement M
-goes-first-spec = tie.close (tie.spec returns)
+pub goes_first_spec : {M : Type 1} → statement M
+goes_first_spec = tie.close (tie.spec returns)

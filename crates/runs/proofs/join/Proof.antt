@@ -6,67 +6,67 @@ use borrow.Author.Rules.{rules}
 use Rattle.runs.proofs.join.Statement.{statement}
 use Rattle.runs.proofs.join.Tie as tie
 
-merge-until-requires : tie.Need-merge-until-requires
-merge-until-requires c κs = search rules
+merge_until-run-requires : tie.Need-merge_until-run-requires
+merge_until-run-requires c κs = search rules
 
-sub-second : tie.Need-overflow-sub-second
-sub-second c = search rules
+overflow_sub-second : tie.Need-overflow_sub-second
+overflow_sub-second c = search rules
 
-mul-result : tie.Need-overflow-mul-result
-mul-result c = search rules
+offset_bounds-ys-second : tie.Need-offset_bounds-ys-second
+offset_bounds-ys-second c = search rules
 
-sub-result : tie.Need-overflow-sub-result
-sub-result c = search rules
+slice_bounds-result-count : tie.Need-slice_bounds-result-count
+slice_bounds-result-count c = search rules
 
-part-result-start : tie.Need-slice-bounds-result-start
-part-result-start c = search rules
+slice_bounds-result-start : tie.Need-slice_bounds-result-start
+slice_bounds-result-start c = search rules
 
-part-result-end : tie.Need-slice-bounds-result-end
-part-result-end c = search rules
+slice_bounds-result-end : tie.Need-slice_bounds-result-end
+slice_bounds-result-end c = search rules
 
-same_length : tie.Need-same-length
-same_length c = search rules
+shape_of-out-then-second-ys : tie.Need-shape_of-out-then-second-ys
+shape_of-out-then-second-ys c = search rules
+
+returns-then-second-ys : tie.Need-returns-then-second-ys
+returns-then-second-ys c =
+    let m = c.before.before.before.before.before in
+    joins_second _ m.merge_until-run.ensures m.requires (omega (arith, c.if-second-ys.true)) _ refl refl
+
+offset_bounds-xs-first : tie.Need-offset_bounds-xs-first
+offset_bounds-xs-first c = search rules
+
+slice_bounds-result-count-2 : tie.Need-slice_bounds-result-count-2
+slice_bounds-result-count-2 c = search rules
+
+slice_bounds-result-start-2 : tie.Need-slice_bounds-result-start-2
+slice_bounds-result-start-2 c = search rules
+
+slice_bounds-result-end-2 : tie.Need-slice_bounds-result-end-2
+slice_bounds-result-end-2 c = search rules
+
+shape_of-out : tie.Need-shape_of-out
+shape_of-out c = search rules
 
 returns : tie.Need-returns
 returns c =
     let m = c.before.before.before.before.before in
-    joins_second _ m.merge-until.ensures m.before.before.before.before.before.requires (omega (arith, c.before.if1.true)) _ refl refl
+    joins_first _ m.merge_until-run.ensures m.requires (omega (arith, c.if-second-ys.false)) _ refl refl
 
-mul-result-2 : tie.Need-overflow-mul-result-2
-mul-result-2 c = search rules
-
-sub-result-2 : tie.Need-overflow-sub-result-2
-sub-result-2 c = search rules
-
-part-result-start-2 : tie.Need-slice-bounds-result-start-2
-part-result-start-2 c = search rules
-
-part-result-end-2 : tie.Need-slice-bounds-result-end-2
-part-result-end-2 c = search rules
-
-same-length-2 : tie.Need-same-length-2
-same-length-2 c = search rules
-
-returns-2 : tie.Need-returns-2
-returns-2 c =
-    let m = c.before.before.before.before.before in
-    joins_first _ m.merge-until.ensures m.before.before.before.before.before.requires (omega (arith, c.before.if1.false)) _ refl refl
-
-pub join-spec : {M : Type 1} → statement M
-join-spec =
+pub join_spec : {M : Type 1} → statement M
+join_spec =
     tie.close
     (tie.spec
-    merge-until-requires
-    sub-second
-    mul-result
-    sub-result
-    part-result-start
-    part-result-end
-    same_length
-    returns
-    mul-result-2
-    sub-result-2
-    part-result-start-2
-    part-result-end-2
-    same-length-2
-    returns-2)
+    merge_until-run-requires
+    overflow_sub-second
+    offset_bounds-ys-second
+    slice_bounds-result-count
+    slice_bounds-result-start
+    slice_bounds-result-end
+    shape_of-out-then-second-ys
+    returns-then-second-ys
+    offset_bounds-xs-first
+    slice_bounds-result-count-2
+    slice_bounds-result-start-2
+    slice_bounds-result-end-2
+    shape_of-out
+    returns)

@@ -5,30 +5,30 @@ use borrow.Author.Rules.{rules}
 use Rattle.runs.proofs.lay.Statement.{statement}
 use Rattle.runs.proofs.lay.Tie as tie
 
-mul-copy : tie.Need-overflow-mul-copy
-mul-copy c = search rules
+offset_bounds-array-at : tie.Need-offset_bounds-array-at
+offset_bounds-array-at c = search rules
 
-sub-copy : tie.Need-overflow-sub-copy
-sub-copy c = search rules
+slice_bounds-copy-count : tie.Need-slice_bounds-copy-count
+slice_bounds-copy-count c = search rules
 
-part-copy-start : tie.Need-slice-bounds-copy-start
-part-copy-start c = search rules
+slice_bounds-copy-start : tie.Need-slice_bounds-copy-start
+slice_bounds-copy-start c = search rules
 
-part-copy-end : tie.Need-slice-bounds-copy-end
-part-copy-end c = search rules
+slice_bounds-copy-end : tie.Need-slice_bounds-copy-end
+slice_bounds-copy-end c = search rules
 
 copy-requires : tie.Need-copy-requires
 copy-requires c κs = search rules
 
-same_length : tie.Need-same-length
-same_length c = search rules
+shape_of-array : tie.Need-shape_of-array
+shape_of-array c = search rules
 
 returns : tie.Need-returns
 returns c =
     let s = c.before.before.before.before.before.before in
-    lay_part s.args.array.now s.args.from.now _ s.args.at _ refl s.requires c.before.before.copy.ensures
+    lay_part s.args.array.now s.args.from.now _ s.args.at _ refl s.requires c.copy.ensures
 
-pub lay-spec : {M : Type 1} → statement M
-lay-spec =
+pub lay_spec : {M : Type 1} → statement M
+lay_spec =
     tie.close
-    (tie.spec mul-copy sub-copy part-copy-start part-copy-end copy-requires same_length returns)
+    (tie.spec offset_bounds-array-at slice_bounds-copy-count slice_bounds-copy-start slice_bounds-copy-end copy-requires shape_of-array returns)

@@ -2,58 +2,57 @@
 use mathlib.Core.Path.{refl, sym, ◌∙◌}
 use native.Mathlib.Omega.{arith}
 use Prim.Native.Nat.{◌-◌}
-use borrow.Author.Tests.{not-true, not-false}
 use lib.ListN.{length}
 use Rattle.rules.specs.Entries.{key_by}
 use Rattle.runs.proofs.LeadLaws.{Looking, look_start, look_more, look_stops, look_ends}
 use Rattle.runs.proofs.lead.Statement.{statement}
 use Rattle.runs.proofs.lead.Tie as tie
 
-abbrev invariant-loop : tie.invariant-loop
-invariant-loop rule run head first ahead₀ ahead = Looking (key_by rule) first head run ahead
+abbrev invariant-loop-ahead : tie.invariant-loop-ahead
+invariant-loop-ahead rule run head first ahead₀ ahead = Looking (key_by rule) first head run ahead
 
-abbrev decreases-loop : tie.decreases-loop
-decreases-loop rule run head first ahead₀ ahead = length run - ahead
+abbrev decreases-loop-ahead : tie.decreases-loop-ahead
+decreases-loop-ahead rule run head first ahead₀ ahead = length run - ahead
 
-loop-holds : tie.Need-loop-init invariant-loop decreases-loop
-loop-holds c = look_start _ _ _ _
+loop-ahead-init : tie.Need-loop-ahead-init invariant-loop-ahead decreases-loop-ahead
+loop-ahead-init c = look_start _ _ _ _
 
-mul-goes-before : tie.Need-overflow-mul-goes-before invariant-loop decreases-loop
-mul-goes-before c = omega arith
+offset_bounds-run-ahead : tie.Need-offset_bounds-run-ahead invariant-loop-ahead decreases-loop-ahead
+offset_bounds-run-ahead c = omega arith
 
-shared-slice-read-goes-before : tie.Need-shared-slice-read-goes-before invariant-loop decreases-loop
-shared-slice-read-goes-before c = omega arith
+bounds-run-ahead : tie.Need-bounds-run-ahead invariant-loop-ahead decreases-loop-ahead
+bounds-run-ahead c = omega arith
 
-goes-before-requires : tie.Need-goes-before-requires invariant-loop decreases-loop
-goes-before-requires c κs = tt
+goes_before-requires : tie.Need-goes_before-requires invariant-loop-ahead decreases-loop-ahead
+goes_before-requires c κs = tt
 
-add-ahead : tie.Need-overflow-add-ahead invariant-loop decreases-loop
-add-ahead c = omega arith
+overflow_add-ahead : tie.Need-overflow_add-ahead invariant-loop-ahead decreases-loop-ahead
+overflow_add-ahead c = omega arith
 
-loop-less : tie.Need-loop-smaller invariant-loop decreases-loop
-loop-less c = omega arith
+loop-ahead-smaller : tie.Need-loop-ahead-smaller invariant-loop-ahead decreases-loop-ahead
+loop-ahead-smaller c = omega arith
 
-loop-again : tie.Need-loop-preserved invariant-loop decreases-loop
-loop-again c = let e = c.before in let g = e.before.before in look_more _ g.before.loop.invariant g.loop-test.true (sym e.goes_before.ensures ∙ not-false _ c.if1.false) refl
+loop-ahead-preserved : tie.Need-loop-ahead-preserved invariant-loop-ahead decreases-loop-ahead
+loop-ahead-preserved c = let e = c.before in let g = e.before.before in look_more _ g.loop-ahead.invariant g.loop-ahead-test.true (sym e.goes_before.ensures ∙ c.if-not-goes_before.false) refl
 
-returns : tie.Need-returns invariant-loop decreases-loop
-returns c = look_ends _ c.before.loop.invariant c.loop-test.false
+returns-after-loop-ahead : tie.Need-returns-after-loop-ahead invariant-loop-ahead decreases-loop-ahead
+returns-after-loop-ahead c = look_ends _ c.loop-ahead.invariant c.loop-ahead-test.false
 
-returns-2 : tie.Need-returns-2 invariant-loop decreases-loop
-returns-2 c = let e = c.before in let g = e.before.before in look_stops _ g.before.loop.invariant g.loop-test.true (sym e.goes_before.ensures ∙ not-true _ c.if1.true) refl
+returns-then-not-goes_before : tie.Need-returns-then-not-goes_before invariant-loop-ahead decreases-loop-ahead
+returns-then-not-goes_before c = let e = c.before in let g = e.before.before in look_stops _ g.loop-ahead.invariant g.loop-ahead-test.true (sym e.goes_before.ensures ∙ c.if-not-goes_before.true) refl
 
-pub lead-spec : {M : Type 1} → statement M
-lead-spec =
+pub lead_spec : {M : Type 1} → statement M
+lead_spec =
     tie.close
     (tie.spec
-    invariant-loop
-    decreases-loop
-    loop-holds
-    mul-goes-before
-    shared-slice-read-goes-before
-    goes-before-requires
-    add-ahead
-    loop-less
-    loop-again
-    returns
-    returns-2)
+    invariant-loop-ahead
+    decreases-loop-ahead
+    loop-ahead-init
+    offset_bounds-run-ahead
+    bounds-run-ahead
+    goes_before-requires
+    overflow_add-ahead
+    loop-ahead-smaller
+    loop-ahead-preserved
+    returns-after-loop-ahead
+    returns-then-not-goes_before)

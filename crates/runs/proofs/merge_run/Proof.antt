@@ -7,32 +7,32 @@ use Rattle.runs.proofs.merge_run.Tie as tie
 of-requires : tie.Need-of-requires
 of-requires c κs = search rules
 
+returns-then-one-one_end : tie.Need-returns-then-one-one_end
+returns-then-one-one_end c = rw (c.of.ensures.0, c.of.ensures.1) (one_empty _ _ _ _ _ _ _ _ c.requires c.if-one-one_end.true)
+
+of-requires-then-two-two_end : tie.Need-of-requires-then-two-two_end
+of-requires-then-two-two_end c κs = search rules
+
+returns-then-two-two_end : tie.Need-returns-then-two-two_end
+returns-then-two-two_end c = rw (c.of-then-two-two_end.ensures.0, c.of-then-two-two_end.ensures.1) (two_empty _ _ _ _ _ _ _ _ c.requires c.if-two-two_end.true)
+
+merge_heads-requires : tie.Need-merge_heads-requires
+merge_heads-requires c κs = search rules
+
+shape_of-a : tie.Need-shape_of-a
+shape_of-a c = search rules
+
 returns : tie.Need-returns
-returns c = rw (c.of.ensures.0, c.of.ensures.1) (one_empty _ _ _ _ _ _ _ _ c.before.before.before.requires c.before.if1.true)
+returns c = search rules
 
-of-requires-2 : tie.Need-of-requires-2
-of-requires-2 c κs = search rules
-
-returns-2 : tie.Need-returns-2
-returns-2 c = rw (c.of2.ensures.0, c.of2.ensures.1) (two_empty _ _ _ _ _ _ _ _ c.before.before.before.before.requires c.before.if2.true)
-
-merge-heads-requires : tie.Need-merge-heads-requires
-merge-heads-requires c κs = search rules
-
-same_length : tie.Need-same-length
-same_length c = search rules
-
-returns-3 : tie.Need-returns-3
-returns-3 c = search rules
-
-pub merge-run-spec : {M : Type 1} → statement M
-merge-run-spec =
+pub merge_run_spec : {M : Type 1} → statement M
+merge_run_spec =
     tie.close
     (tie.spec
     of-requires
-    returns
-    of-requires-2
-    returns-2
-    merge-heads-requires
-    same_length
-    returns-3)
+    returns-then-one-one_end
+    of-requires-then-two-two_end
+    returns-then-two-two_end
+    merge_heads-requires
+    shape_of-a
+    returns)

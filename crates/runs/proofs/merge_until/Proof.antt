@@ -20,267 +20,267 @@ use Rattle.runs.proofs.merge_until.Tie as tie
 
 -- ---- the way back: from the rests to the two blocks, the look at the second run, the first block, the look at the first run, and the entry
 
-abbrev rests : tie.After-merge-on → tie.Else4
+abbrev rests : tie.After-merge_on-more → tie.Else-j-m
 rests c = c.before.before.before.before
 
-abbrev blocks : tie.Else4 → tie.After-lay
+abbrev blocks : tie.Else-j-m → tie.After-lay
 blocks c = c.before.before.before
 
-abbrev second : tie.After-lay → tie.After-lead2
-second c = c.before.before.before
+abbrev second : tie.After-lay → tie.After-lead-j
+second c = c.before.before
 
-abbrev stopped : tie.After-lead2 → tie.Else3
-stopped c = c.before.before.before.before
+abbrev stopped : tie.After-lead-j → tie.Else-i-n
+stopped c = c.before.before.before
 
-abbrev copied : tie.Else3 → tie.After-copy
+abbrev copied : tie.Else-i-n → tie.After-copy
 copied c = c.before.before.before
 
-abbrev first : tie.After-copy → tie.After-lead
-first c = c.before.before.before
+abbrev first : tie.After-copy → tie.After-lead-i
+first c = c.before.before
 
-abbrev asked : tie.After-lead → tie.After-slice-known
-asked c = c.before.before.before.before.before.before
+abbrev asked : tie.After-lead-i → tie.After-slice_known-1
+asked c = c.before.before.before.before.before
 
-abbrev start : tie.After-lead → tie.Start
+abbrev start : tie.After-lead-i → tie.Start
 start c = (asked c).before.before.before
 
-abbrev one : tie.After-lead2 → tie.After-lead
+abbrev one : tie.After-lead-j → tie.After-lead-i
 one c = first (copied (stopped c))
 
 -- ---- what is known there
 
-lengths-fit : (c : tie.After-slice-known) → let s = c.before.before.before.args in Fits w64 (length s.xs.now) × Fits w64 (length s.out.now)
+lengths-fit : (c : tie.After-slice_known-1) → let s = c.args in Fits w64 (length s.xs.now) × Fits w64 (length s.out.now)
 lengths-fit c = (omega arith, omega arith)
 
 -- the first run's block fits, and with it so many merge steps are laid
-block : (c : tie.After-lead) → let s = (start c).args in let i = c.lead.result in
-    (i ≤ c.before.before.before.shorter.result) × Running (key_by s.rule) s.xs.now s.ys.now s.out.now (laid_at s.out.now 0 (take i s.xs.now)) 0 (length s.out.now) i i
-block c = led_first _ _ _ _ _ _ (omega arith) c.before.before.before.shorter.ensures c.lead.ensures
+block : (c : tie.After-lead-i) → let s = (start c).args in let i = c.lead-i.result in
+    (i ≤ c.shorter-n.result) × Running (key_by s.rule) s.xs.now s.ys.now s.out.now (laid_at s.out.now 0 (take i s.xs.now)) 0 (length s.out.now) i i
+block c = led_first _ _ _ _ _ _ (omega arith) c.shorter-n.ensures c.lead-i.ensures
 
-block-fits : (c : tie.After-lead) → let s = (start c).args in let i = c.lead.result in (length (take i s.xs.now) ≡ i) × (i ≤ length s.out.now)
-block-fits c = let few = (block c).0 in let n = c.before.before.before.shorter.ensures in (length-take-le _ _ (omega (arith, few, n)), omega (arith, few, n))
+block-fits : (c : tie.After-lead-i) → let s = (start c).args in let i = c.lead-i.result in (length (take i s.xs.now) ≡ i) × (i ≤ length s.out.now)
+block-fits c = let few = (block c).0 in let n = c.shorter-n.ensures in (length-take-le _ _ (omega (arith, few, n)), omega (arith, few, n))
 
-laid : (c : tie.After-copy) → let s = (start (first c)).args in let i = (first c).lead.result in
-    Running (key_by s.rule) s.xs.now s.ys.now s.out.now c.copy.new.1.0 0 (length s.out.now) i i
+laid : (c : tie.After-copy) → let s = (start (first c)).args in let i = (first c).lead-i.result in
+    Running (key_by s.rule) s.xs.now s.ys.now s.out.now c.copy.new.to 0 (length s.out.now) i i
 laid c = run_at _ c.copy.ensures (block (first c)).1
 
 -- the look stopped inside the first run, and out has room left
-inside : (c : tie.Else3) → let l = first (copied c) in let s = (start l).args in (l.lead.result < length s.xs.now) × (l.lead.result < length s.out.now)
+inside : (c : tie.Else-i-n) → let l = first (copied c) in let s = (start l).args in (l.lead-i.result < length s.xs.now) × (l.lead-i.result < length s.out.now)
 inside c =
     let l = first (copied c) in
     let few = (block l).0 in
-    let n = l.before.before.before.shorter.ensures in
-    (omega (arith, few, n, c.if3.false), omega (arith, few, n, c.if3.false))
+    let n = l.shorter-n.ensures in
+    (omega (arith, few, n, c.if-i-n.false), omega (arith, few, n, c.if-i-n.false))
 
-room-two : (c : tie.After-lead2) → let l = one c in let s = (start l).args in c.before.before.before.shorter2.result ≡ min (length s.ys.now) (length s.out.now - l.lead.result)
-room-two c = omega (arith, (laid (copied (stopped c))).laying.sized, c.before.before.before.shorter2.ensures)
+room-two : (c : tie.After-lead-j) → let l = one c in let s = (start l).args in c.shorter-m.result ≡ min (length s.ys.now) (length s.out.now - l.lead-i.result)
+room-two c = omega (arith, (laid (copied (stopped c))).laying.sized, c.shorter-m.ensures)
 
 -- the second run's block fits behind the first's, and with it so many merge steps are laid
-block-two : (c : tie.After-lead2) → let l = one c in let s = (start l).args in let i = l.lead.result in let j = c.lead2.result in
-    (j ≤ c.before.before.before.shorter2.result) × Running (key_by s.rule) s.xs.now s.ys.now s.out.now (laid_at (copied (stopped c)).copy.new.1.0 i (take j s.ys.now)) 0 (length s.out.now) (i + j) i
-block-two c = led_second _ (laid (copied (stopped c))) _ _ (inside (stopped c)).0 (room-two c) c.lead2.ensures
+block-two : (c : tie.After-lead-j) → let l = one c in let s = (start l).args in let i = l.lead-i.result in let j = c.lead-j.result in
+    (j ≤ c.shorter-m.result) × Running (key_by s.rule) s.xs.now s.ys.now s.out.now (laid_at (copied (stopped c)).copy.new.to i (take j s.ys.now)) 0 (length s.out.now) (i + j) i
+block-two c = led_second _ (laid (copied (stopped c))) _ _ (inside (stopped c)).0 (room-two c) c.lead-j.ensures
 
-block-two-fits : (c : tie.After-lead2) → length (take c.lead2.result (start (one c)).args.ys.now) ≡ c.lead2.result
-block-two-fits c = length-take-le _ _ (omega (arith, (block-two c).0, c.before.before.before.shorter2.ensures))
+block-two-fits : (c : tie.After-lead-j) → length (take c.lead-j.result (start (one c)).args.ys.now) ≡ c.lead-j.result
+block-two-fits c = length-take-le _ _ (omega (arith, (block-two c).0, c.shorter-m.ensures))
 
 laid-two : (c : tie.After-lay) → let m = second c in let l = one m in let s = (start l).args in
-    Running (key_by s.rule) s.xs.now s.ys.now s.out.now c.lay.new.0 0 (length s.out.now) (l.lead.result + m.lead2.result) l.lead.result
+    Running (key_by s.rule) s.xs.now s.ys.now s.out.now c.lay.new.array 0 (length s.out.now) (l.lead-i.result + m.lead-j.result) l.lead-i.result
 laid-two c = run_at _ c.lay.ensures (block-two (second c)).1
 
 -- both runs have entries left
-left : (c : tie.Else4) → let m = second (blocks c) in let l = one m in let s = (start l).args in (l.lead.result < length s.xs.now) × (m.lead2.result < length s.ys.now)
-left c = let m = second (blocks c) in ((inside (stopped m)).0, omega (arith, (block-two m).0, m.before.before.before.shorter2.ensures, c.if4.false))
+left : (c : tie.Else-j-m) → let m = second (blocks c) in let l = one m in let s = (start l).args in (l.lead-i.result < length s.xs.now) × (m.lead-j.result < length s.ys.now)
+left c = let m = second (blocks c) in ((inside (stopped m)).0, omega (arith, (block-two m).0, m.shorter-m.ensures, c.if-j-m.false))
 
 -- the rests are merged behind the blocks
-whole : (c : tie.After-merge-on) → let a = blocks (rests c) in let m = second a in let l = one m in let s = (start l).args in let t = l.lead.result + m.lead2.result in let w = a.lay.last.0 in
-    Merges (key_by s.rule) s.xs.now s.ys.now s.out.now (take t w ++ (c.merge_on.new.1.1.1.0 ++ drop (length w - t) (drop t w))) 0 (length s.out.now) (t + c.merge_on.result.moved) (l.lead.result + c.merge_on.result.first)
-whole c = led_on _ _ _ (laid-two (blocks (rests c))) _ _ _ _ refl c.merge_on.ensures
+whole : (c : tie.After-merge_on-more) → let a = blocks (rests c) in let m = second a in let l = one m in let s = (start l).args in let t = l.lead-i.result + m.lead-j.result in let w = a.lay.new.array in
+    Merges (key_by s.rule) s.xs.now s.ys.now s.out.now (take t w ++ (c.merge_on-more.new.out ++ drop (length w - t) (drop t w))) 0 (length s.out.now) (t + c.merge_on-more.result.moved) (l.lead-i.result + c.merge_on-more.result.first)
+whole c = led_on _ _ _ (laid-two (blocks (rests c))) _ _ _ _ refl c.merge_on-more.ensures
 
 -- ---- the needs
 
 of-requires : tie.Need-of-requires
 of-requires c κs = search rules
 
-returns : tie.Need-returns
-returns c = rw (c.of.ensures.0, c.of.ensures.1) (none_first _ _ _ _ c.before.if1.true)
+returns-then-xs-eq0 : tie.Need-returns-then-xs-eq0
+returns-then-xs-eq0 c = rw (c.of.ensures.0, c.of.ensures.1) (none_first _ _ _ _ c.if-xs-eq0.true)
 
-of-requires-2 : tie.Need-of-requires-2
-of-requires-2 c κs = search rules
+of-requires-then-ys-eq0 : tie.Need-of-requires-then-ys-eq0
+of-requires-then-ys-eq0 c κs = search rules
 
-returns-2 : tie.Need-returns-2
-returns-2 c = rw (c.of2.ensures.0, c.of2.ensures.1) (none_second _ _ _ _ c.before.if2.true)
+returns-then-ys-eq0 : tie.Need-returns-then-ys-eq0
+returns-then-ys-eq0 c = rw (c.of-then-ys-eq0.ensures.0, c.of-then-ys-eq0.ensures.1) (none_second _ _ _ _ c.if-ys-eq0.true)
 
-shorter-requires : tie.Need-shorter-requires
-shorter-requires c κs = search rules
+shorter-n-requires : tie.Need-shorter-n-requires
+shorter-n-requires c κs = search rules
 
-slice-aggregate-lead : tie.Need-slice-aggregate-lead
-slice-aggregate-lead c = sym (length-take-le _ _ (omega (arith, c.before.shorter.ensures)))
+slice_bounds-lead-end : tie.Need-slice_bounds-lead-end
+slice_bounds-lead-end c = sym (length-take-le _ _ (omega (arith, c.shorter-n.ensures)))
 
-shared-slice-read-lead : tie.Need-shared-slice-read-lead
-shared-slice-read-lead c = search rules
+bounds-ys-0 : tie.Need-bounds-ys-0
+bounds-ys-0 c = search rules
 
-lead-requires : tie.Need-lead-requires
-lead-requires c κs = search rules
+lead-i-requires : tie.Need-lead-i-requires
+lead-i-requires c κs = search rules
 
-slice-aggregate-copy : tie.Need-slice-aggregate-copy
-slice-aggregate-copy c = sym (block-fits c.before).0
+slice_bounds-copy-end : tie.Need-slice_bounds-copy-end
+slice_bounds-copy-end c = sym (block-fits c).0
 
 copy-requires : tie.Need-copy-requires
-copy-requires c κs = omega (arith, (block-fits c.before.before).0, (block-fits c.before.before).1)
+copy-requires c κs = omega (arith, (block-fits c.before).0, (block-fits c.before).1)
 
-of-requires-3 : tie.Need-of-requires-3
-of-requires-3 c κs = search rules
+of-requires-then-i-n : tie.Need-of-requires-then-i-n
+of-requires-then-i-n c κs = search rules
 
-same_length : tie.Need-same-length
-same_length c = search rules
+shape_of-out-then-i-n : tie.Need-shape_of-out-then-i-n
+shape_of-out-then-i-n c = search rules
 
-returns-3 : tie.Need-returns-3
-returns-3 c =
+returns-then-i-n : tie.Need-returns-then-i-n
+returns-then-i-n c =
     let k = c.before.before.before.before in
-    rw (c.of3.ensures.0, c.of3.ensures.1) (first_over _ (laid k) (first k).before.before.before.shorter.ensures c.before.if3.true)
+    rw (c.of-then-i-n.ensures.0, c.of-then-i-n.ensures.1) (first_over _ (laid k) (first k).shorter-n.ensures c.if-i-n.true)
 
-sub-shorter : tie.Need-overflow-sub-shorter
-sub-shorter c = omega (arith, (inside c).1, (laid (copied c)).laying.sized)
+overflow_sub-out : tie.Need-overflow_sub-out
+overflow_sub-out c = omega (arith, (inside c).1, (laid (copied c)).laying.sized)
 
-shorter-requires-2 : tie.Need-shorter-requires-2
-shorter-requires-2 c κs = search rules
+shorter-m-requires : tie.Need-shorter-m-requires
+shorter-m-requires c κs = search rules
 
-slice-aggregate-lead-2 : tie.Need-slice-aggregate-lead-2
-slice-aggregate-lead-2 c = sym (length-take-le _ _ (omega (arith, c.before.shorter2.ensures)))
+slice_bounds-lead-end-2 : tie.Need-slice_bounds-lead-end-2
+slice_bounds-lead-end-2 c = sym (length-take-le _ _ (omega (arith, c.shorter-m.ensures)))
 
-mul-lead : tie.Need-overflow-mul-lead
-mul-lead c = omega (arith, (inside c.before.before).0)
+offset_bounds-xs-i : tie.Need-offset_bounds-xs-i
+offset_bounds-xs-i c = omega (arith, (inside c.before).0)
 
-shared-slice-read-lead-2 : tie.Need-shared-slice-read-lead-2
-shared-slice-read-lead-2 c = (inside c.before.before.before).0
+bounds-xs-i : tie.Need-bounds-xs-i
+bounds-xs-i c = (inside c.before.before).0
 
-lead-requires-2 : tie.Need-lead-requires-2
-lead-requires-2 c κs = search rules
+lead-j-requires : tie.Need-lead-j-requires
+lead-j-requires c κs = search rules
 
-slice-aggregate-lay : tie.Need-slice-aggregate-lay
-slice-aggregate-lay c = sym (block-two-fits c.before.before)
+slice_bounds-lay-end : tie.Need-slice_bounds-lay-end
+slice_bounds-lay-end c = sym (block-two-fits c.before)
 
 lay-requires : tie.Need-lay-requires
 lay-requires c κs =
-    let m = c.before.before in
+    let m = c.before in
     omega (arith, block-two-fits m, (block-two m).1.within, (laid (copied (stopped m))).laying.sized)
 
-add-t : tie.Need-overflow-add-t
-add-t c = omega (arith, (laid-two c.before.before).within)
+overflow_add-t : tie.Need-overflow_add-t
+overflow_add-t c = omega (arith, (laid-two c.before.before).within)
 
-of-requires-4 : tie.Need-of-requires-4
-of-requires-4 c κs = search rules
+of-requires-then-j-m : tie.Need-of-requires-then-j-m
+of-requires-then-j-m c κs = search rules
 
-same-length-2 : tie.Need-same-length-2
-same-length-2 c = search rules
+shape_of-out-then-j-m : tie.Need-shape_of-out-then-j-m
+shape_of-out-then-j-m c = search rules
 
-returns-4 : tie.Need-returns-4
-returns-4 c =
+returns-then-j-m : tie.Need-returns-then-j-m
+returns-then-j-m c =
     let a = c.before.before.before.before in
-    rw (c.of4.ensures.0, c.of4.ensures.1) (second_over _ (laid-two a) (room-two (second a)) c.before.if4.true)
+    rw (c.of-then-j-m.ensures.0, c.of-then-j-m.ensures.1) (second_over _ (laid-two a) (room-two (second a)) c.if-j-m.true)
 
-mul-merge-on : tie.Need-overflow-mul-merge-on
-mul-merge-on c = omega (arith, (left c).0)
+offset_bounds-xs-i-2 : tie.Need-offset_bounds-xs-i-2
+offset_bounds-xs-i-2 c = omega (arith, (left c).0)
 
-sub-merge-on : tie.Need-overflow-sub-merge-on
-sub-merge-on c = le_of_lt (left c).0
+slice_bounds-merge_on-count : tie.Need-slice_bounds-merge_on-count
+slice_bounds-merge_on-count c = le_of_lt (left c).0
 
-part-merge-on-start : tie.Need-slice-bounds-merge-on-start
-part-merge-on-start c = le_of_lt (left c).0
+slice_bounds-merge_on-start : tie.Need-slice_bounds-merge_on-start
+slice_bounds-merge_on-start c = le_of_lt (left c).0
 
-part-merge-on-end : tie.Need-slice-bounds-merge-on-end
-part-merge-on-end c = search rules
+slice_bounds-merge_on-end : tie.Need-slice_bounds-merge_on-end
+slice_bounds-merge_on-end c = search rules
 
-mul-merge-on-2 : tie.Need-overflow-mul-merge-on-2
-mul-merge-on-2 c = omega (arith, (left c.before).1)
+offset_bounds-ys-j : tie.Need-offset_bounds-ys-j
+offset_bounds-ys-j c = omega (arith, (left c.before).1)
 
-sub-merge-on-2 : tie.Need-overflow-sub-merge-on-2
-sub-merge-on-2 c = le_of_lt (left c.before).1
+slice_bounds-merge_on-count-2 : tie.Need-slice_bounds-merge_on-count-2
+slice_bounds-merge_on-count-2 c = le_of_lt (left c.before).1
 
-part-merge-on-start-2 : tie.Need-slice-bounds-merge-on-start-2
-part-merge-on-start-2 c = le_of_lt (left c.before).1
+slice_bounds-merge_on-start-2 : tie.Need-slice_bounds-merge_on-start-2
+slice_bounds-merge_on-start-2 c = le_of_lt (left c.before).1
 
-part-merge-on-end-2 : tie.Need-slice-bounds-merge-on-end-2
-part-merge-on-end-2 c = search rules
+slice_bounds-merge_on-end-2 : tie.Need-slice_bounds-merge_on-end-2
+slice_bounds-merge_on-end-2 c = search rules
 
-mul-merge-on-3 : tie.Need-overflow-mul-merge-on-3
-mul-merge-on-3 c = omega (arith, (laid-two (blocks c.before.before)).within)
+offset_bounds-out-t : tie.Need-offset_bounds-out-t
+offset_bounds-out-t c = omega (arith, (laid-two (blocks c.before.before)).within)
 
-sub-merge-on-3 : tie.Need-overflow-sub-merge-on-3
-sub-merge-on-3 c = let r = laid-two (blocks c.before.before) in omega (arith, r.within, r.laying.sized)
+slice_bounds-merge_on-count-3 : tie.Need-slice_bounds-merge_on-count-3
+slice_bounds-merge_on-count-3 c = let r = laid-two (blocks c.before.before) in omega (arith, r.within, r.laying.sized)
 
-part-merge-on-start-3 : tie.Need-slice-bounds-merge-on-start-3
-part-merge-on-start-3 c = let r = laid-two (blocks c.before.before) in omega (arith, r.within, r.laying.sized)
+slice_bounds-merge_on-start-3 : tie.Need-slice_bounds-merge_on-start-3
+slice_bounds-merge_on-start-3 c = let r = laid-two (blocks c.before.before) in omega (arith, r.within, r.laying.sized)
 
-part-merge-on-end-3 : tie.Need-slice-bounds-merge-on-end-3
-part-merge-on-end-3 c = search rules
+slice_bounds-merge_on-end-3 : tie.Need-slice_bounds-merge_on-end-3
+slice_bounds-merge_on-end-3 c = search rules
 
-merge-on-requires : tie.Need-merge-on-requires
-merge-on-requires c κs =
+merge_on-more-requires : tie.Need-merge_on-more-requires
+merge_on-more-requires c κs =
     let e = c.before.before.before in
     let m = second (blocks e) in
     let s = (start (one m)).args in
     (rest_has s.xs.now _ (left e).0, rest_has s.ys.now _ (left e).1)
 
-add-of : tie.Need-overflow-add-of
-add-of c = let w = c.before.before.before in Fits-le (whole w).within (lengths-fit (asked (one (second (blocks (rests w)))))).1
+overflow_add-t-2 : tie.Need-overflow_add-t-2
+overflow_add-t-2 c = let w = c.before.before.before in Fits-le (whole w).within (lengths-fit (asked (one (second (blocks (rests w)))))).1
 
-add-of-2 : tie.Need-overflow-add-of-2
-add-of-2 c = let w = c.before.before.before.before in Fits-le (whole w).of_first (lengths-fit (asked (one (second (blocks (rests w)))))).0
+overflow_add-i : tie.Need-overflow_add-i
+overflow_add-i c = let w = c.before.before.before.before in Fits-le (whole w).of_first (lengths-fit (asked (one (second (blocks (rests w)))))).0
 
-of-requires-5 : tie.Need-of-requires-5
-of-requires-5 c κs = search rules
+of-requires-2 : tie.Need-of-requires-2
+of-requires-2 c κs = search rules
 
-same-length-3 : tie.Need-same-length-3
-same-length-3 c = search rules
+shape_of-out : tie.Need-shape_of-out
+shape_of-out c = search rules
 
-returns-5 : tie.Need-returns-5
-returns-5 c = rw (c.of5.ensures.0, c.of5.ensures.1) (whole c.before.before.before.before.before)
+returns : tie.Need-returns
+returns c = rw (c.of-2.ensures.0, c.of-2.ensures.1) (whole c.before.before.before.before.before)
 
-pub merge-until-spec : {M : Type 1} → statement M
-merge-until-spec =
+pub merge_until_spec : {M : Type 1} → statement M
+merge_until_spec =
     tie.close
     (tie.spec
     of-requires
-    returns
-    of-requires-2
-    returns-2
-    shorter-requires
-    slice-aggregate-lead
-    shared-slice-read-lead
-    lead-requires
-    slice-aggregate-copy
+    returns-then-xs-eq0
+    of-requires-then-ys-eq0
+    returns-then-ys-eq0
+    shorter-n-requires
+    slice_bounds-lead-end
+    bounds-ys-0
+    lead-i-requires
+    slice_bounds-copy-end
     copy-requires
-    of-requires-3
-    same_length
-    returns-3
-    sub-shorter
-    shorter-requires-2
-    slice-aggregate-lead-2
-    mul-lead
-    shared-slice-read-lead-2
-    lead-requires-2
-    slice-aggregate-lay
+    of-requires-then-i-n
+    shape_of-out-then-i-n
+    returns-then-i-n
+    overflow_sub-out
+    shorter-m-requires
+    slice_bounds-lead-end-2
+    offset_bounds-xs-i
+    bounds-xs-i
+    lead-j-requires
+    slice_bounds-lay-end
     lay-requires
-    add-t
-    of-requires-4
-    same-length-2
-    returns-4
-    mul-merge-on
-    sub-merge-on
-    part-merge-on-start
-    part-merge-on-end
-    mul-merge-on-2
-    sub-merge-on-2
-    part-merge-on-start-2
-    part-merge-on-end-2
-    mul-merge-on-3
-    sub-merge-on-3
-    part-merge-on-start-3
-    part-merge-on-end-3
-    merge-on-requires
-    add-of
-    add-of-2
-    of-requires-5
-    same-length-3
-    returns-5)
+    overflow_add-t
+    of-requires-then-j-m
+    shape_of-out-then-j-m
+    returns-then-j-m
+    offset_bounds-xs-i-2
+    slice_bounds-merge_on-count
+    slice_bounds-merge_on-start
+    slice_bounds-merge_on-end
+    offset_bounds-ys-j
+    slice_bounds-merge_on-count-2
+    slice_bounds-merge_on-start-2
+    slice_bounds-merge_on-end-2
+    offset_bounds-out-t
+    slice_bounds-merge_on-count-3
+    slice_bounds-merge_on-start-3
+    slice_bounds-merge_on-end-3
+    merge_on-more-requires
+    overflow_add-t-2
+    overflow_add-i
+    of-requires-2
+    shape_of-out
+    returns)

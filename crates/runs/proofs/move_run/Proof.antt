@@ -5,63 +5,63 @@ use Rattle.runs.proofs.ArrayLaws.{Moving, moving_start, move_more, move_all}
 use Rattle.runs.proofs.move_run.Statement.{statement}
 use Rattle.runs.proofs.move_run.Tie as tie
 
-abbrev invariant-loop : tie.invariant-loop
-invariant-loop a₀ out from count moved₀ a moved = Moving a₀ a out from count moved
+abbrev invariant-loop-moved : tie.invariant-loop-moved
+invariant-loop-moved a₀ out from count moved₀ a moved = Moving a₀ a out from count moved
 
-abbrev decreases-loop : tie.decreases-loop
-decreases-loop a₀ out from count moved₀ a moved = count - moved
+abbrev decreases-loop-moved : tie.decreases-loop-moved
+decreases-loop-moved a₀ out from count moved₀ a moved = count - moved
 
-loop-holds : tie.Need-loop-init invariant-loop decreases-loop
-loop-holds c = moving_start _ _ _ _ c.requires
+loop-moved-init : tie.Need-loop-moved-init invariant-loop-moved decreases-loop-moved
+loop-moved-init c = moving_start _ _ _ _ c.requires
 
-add_a : tie.Need-overflow-add-a invariant-loop decreases-loop
-add_a c = omega arith
+overflow_add-a : tie.Need-overflow_add-a invariant-loop-moved decreases-loop-moved
+overflow_add-a c = omega arith
 
-mul-a : tie.Need-overflow-mul-a invariant-loop decreases-loop
-mul-a c = omega arith
+offset_bounds-a-from : tie.Need-offset_bounds-a-from invariant-loop-moved decreases-loop-moved
+offset_bounds-a-from c = omega arith
 
-slice-read-a : tie.Need-slice-read-a invariant-loop decreases-loop
-slice-read-a c = omega arith
+bounds-a-from : tie.Need-bounds-a-from invariant-loop-moved decreases-loop-moved
+bounds-a-from c = omega arith
 
-add-a-2 : tie.Need-overflow-add-a-2 invariant-loop decreases-loop
-add-a-2 c = omega arith
+overflow_add-a-in-loop-moved : tie.Need-overflow_add-a-in-loop-moved invariant-loop-moved decreases-loop-moved
+overflow_add-a-in-loop-moved c = omega arith
 
-mul-a-2 : tie.Need-overflow-mul-a-2 invariant-loop decreases-loop
-mul-a-2 c = omega arith
+offset_bounds-a-out : tie.Need-offset_bounds-a-out invariant-loop-moved decreases-loop-moved
+offset_bounds-a-out c = omega arith
 
-slice-write-a : tie.Need-slice-write-a invariant-loop decreases-loop
-slice-write-a c = omega arith
+bounds-a-out : tie.Need-bounds-a-out invariant-loop-moved decreases-loop-moved
+bounds-a-out c = omega arith
 
-add-moved : tie.Need-overflow-add-moved invariant-loop decreases-loop
-add-moved c = omega arith
+overflow_add-moved : tie.Need-overflow_add-moved invariant-loop-moved decreases-loop-moved
+overflow_add-moved c = omega arith
 
-loop-less : tie.Need-loop-smaller invariant-loop decreases-loop
-loop-less c = omega arith
+loop-moved-smaller : tie.Need-loop-moved-smaller invariant-loop-moved decreases-loop-moved
+loop-moved-smaller c = omega arith
 
-loop-again : tie.Need-loop-preserved invariant-loop decreases-loop
-loop-again c = move_more c.before.before.loop.invariant c.before.loop-test.true
+loop-moved-preserved : tie.Need-loop-moved-preserved invariant-loop-moved decreases-loop-moved
+loop-moved-preserved c = move_more c.loop-moved.invariant c.loop-moved-test.true
 
-same_length : tie.Need-same-length invariant-loop decreases-loop
-same_length c = c.before.loop.invariant.sized
+shape_of-a : tie.Need-shape_of-a invariant-loop-moved decreases-loop-moved
+shape_of-a c = c.loop-moved.invariant.sized
 
-returns : tie.Need-returns invariant-loop decreases-loop
-returns c = move_all c.before.loop.invariant c.loop-test.false
+returns : tie.Need-returns invariant-loop-moved decreases-loop-moved
+returns c = move_all c.loop-moved.invariant c.loop-moved-test.false
 
 pub move_run_spec : {M : Type 1} → statement M
 move_run_spec =
     tie.close
     (tie.spec
-    invariant-loop
-    decreases-loop
-    loop-holds
-    add_a
-    mul-a
-    slice-read-a
-    add-a-2
-    mul-a-2
-    slice-write-a
-    add-moved
-    loop-less
-    loop-again
-    same_length
+    invariant-loop-moved
+    decreases-loop-moved
+    loop-moved-init
+    overflow_add-a
+    offset_bounds-a-from
+    bounds-a-from
+    overflow_add-a-in-loop-moved
+    offset_bounds-a-out
+    bounds-a-out
+    overflow_add-moved
+    loop-moved-smaller
+    loop-moved-preserved
+    shape_of-a
     returns)

@@ -4,109 +4,109 @@ use borrow.Author.Rules.{rules}
 use Rattle.runs.proofs.part.Statement.{statement}
 use Rattle.runs.proofs.part.Tie as tie
 
-returns : tie.Need-returns
-returns c = parts_none _ _ _ _ c.if1.true
+returns-then-out-eq0 : tie.Need-returns-then-out-eq0
+returns-then-out-eq0 c = parts_none _ _ _ _ c.if-out-eq0.true
 
-merge-until-requires : tie.Need-merge-until-requires
-merge-until-requires c κs = search rules
+merge_until-run-requires : tie.Need-merge_until-run-requires
+merge_until-run-requires c κs = search rules
 
-sub-left : tie.Need-overflow-sub-left
-sub-left c = search rules
+overflow_sub-left : tie.Need-overflow_sub-left
+overflow_sub-left c = search rules
 
-same_length : tie.Need-same-length
-same_length c = search rules
+shape_of-out-then-left-eq0 : tie.Need-shape_of-out-then-left-eq0
+shape_of-out-then-left-eq0 c = search rules
 
-returns-2 : tie.Need-returns-2
-returns-2 c = parts_full _ c.before.before.before.merge-until.ensures c.if2.true
+returns-then-left-eq0 : tie.Need-returns-then-left-eq0
+returns-then-left-eq0 c = parts_full _ c.merge_until-run.ensures c.if-left-eq0.true
 
-add-end : tie.Need-overflow-add-end
-add-end c = search rules
+overflow_add-end : tie.Need-overflow_add-end
+overflow_add-end c = search rules
 
-mul-lay : tie.Need-overflow-mul-lay
-mul-lay c = search rules
+offset_bounds-xs-first : tie.Need-offset_bounds-xs-first
+offset_bounds-xs-first c = search rules
 
-sub-lay : tie.Need-overflow-sub-lay
-sub-lay c = search rules
+slice_bounds-lay-count : tie.Need-slice_bounds-lay-count
+slice_bounds-lay-count c = search rules
 
-part-lay-start : tie.Need-slice-bounds-lay-start
-part-lay-start c = search rules
+slice_bounds-lay-start : tie.Need-slice_bounds-lay-start
+slice_bounds-lay-start c = search rules
 
-part-lay-end : tie.Need-slice-bounds-lay-end
-part-lay-end c =
+slice_bounds-lay-end : tie.Need-slice_bounds-lay-end
+slice_bounds-lay-end c =
     let e = c.before.before in
     let m = e.before.before.before in
-    first_inside _ m.merge-until.ensures m.before.before.before.before.before.before.requires e.if2.false c.before.if3.true
+    first_inside _ m.merge_until-run.ensures m.requires e.if-left-eq0.false c.if-first-xs.true
 
 lay-requires : tie.Need-lay-requires
 lay-requires c κs = search rules
 
-same-length-2 : tie.Need-same-length-2
-same-length-2 c = search rules
+shape_of-out-then-first-xs : tie.Need-shape_of-out-then-first-xs
+shape_of-out-then-first-xs c = search rules
 
-returns-3 : tie.Need-returns-3
-returns-3 c =
+returns-then-first-xs : tie.Need-returns-then-first-xs
+returns-then-first-xs c =
     let t = c.before.before.before.before.before in
     let e = t.before in
     let m = e.before.before.before in
-    parts_first _ m.merge-until.ensures m.before.before.before.before.before.before.requires e.if2.false t.if3.true _ c.before.before.lay.ensures
+    parts_first _ m.merge_until-run.ensures m.requires e.if-left-eq0.false t.if-first-xs.true _ c.lay.ensures
 
-sub-second : tie.Need-overflow-sub-second
-sub-second c = search rules
+overflow_sub-second : tie.Need-overflow_sub-second
+overflow_sub-second c = search rules
 
-add-end-2 : tie.Need-overflow-add-end-2
-add-end-2 c = search rules
+overflow_add-end-2 : tie.Need-overflow_add-end-2
+overflow_add-end-2 c = search rules
 
-mul-lay-2 : tie.Need-overflow-mul-lay-2
-mul-lay-2 c = search rules
+offset_bounds-ys-second : tie.Need-offset_bounds-ys-second
+offset_bounds-ys-second c = search rules
 
-sub-lay-2 : tie.Need-overflow-sub-lay-2
-sub-lay-2 c = search rules
+slice_bounds-lay-count-2 : tie.Need-slice_bounds-lay-count-2
+slice_bounds-lay-count-2 c = search rules
 
-part-lay-start-2 : tie.Need-slice-bounds-lay-start-2
-part-lay-start-2 c = search rules
+slice_bounds-lay-start-2 : tie.Need-slice_bounds-lay-start-2
+slice_bounds-lay-start-2 c = search rules
 
-part-lay-end-2 : tie.Need-slice-bounds-lay-end-2
-part-lay-end-2 c =
+slice_bounds-lay-end-2 : tie.Need-slice_bounds-lay-end-2
+slice_bounds-lay-end-2 c =
     let e = c.before.before in
     let m = e.before.before.before in
-    second_inside _ m.merge-until.ensures m.before.before.before.before.before.before.requires e.if2.false c.before.if3.false
+    second_inside _ m.merge_until-run.ensures m.requires e.if-left-eq0.false c.if-first-xs.false
 
 lay-requires-2 : tie.Need-lay-requires-2
 lay-requires-2 c κs = search rules
 
-same-length-3 : tie.Need-same-length-3
-same-length-3 c = search rules
+shape_of-out : tie.Need-shape_of-out
+shape_of-out c = search rules
 
-returns-4 : tie.Need-returns-4
-returns-4 c =
+returns : tie.Need-returns
+returns c =
     let t = c.before.before.before.before.before in
     let e = t.before in
     let m = e.before.before.before in
-    parts_second _ m.merge-until.ensures m.before.before.before.before.before.before.requires e.if2.false t.if3.false _ c.before.before.lay2.ensures
+    parts_second _ m.merge_until-run.ensures m.requires e.if-left-eq0.false t.if-first-xs.false _ c.lay-2.ensures
 
-pub part-spec : {M : Type 1} → statement M
-part-spec =
+pub part_spec : {M : Type 1} → statement M
+part_spec =
     tie.close
     (tie.spec
-    returns
-    merge-until-requires
-    sub-left
-    same_length
-    returns-2
-    add-end
-    mul-lay
-    sub-lay
-    part-lay-start
-    part-lay-end
+    returns-then-out-eq0
+    merge_until-run-requires
+    overflow_sub-left
+    shape_of-out-then-left-eq0
+    returns-then-left-eq0
+    overflow_add-end
+    offset_bounds-xs-first
+    slice_bounds-lay-count
+    slice_bounds-lay-start
+    slice_bounds-lay-end
     lay-requires
-    same-length-2
-    returns-3
-    sub-second
-    add-end-2
-    mul-lay-2
-    sub-lay-2
-    part-lay-start-2
-    part-lay-end-2
+    shape_of-out-then-first-xs
+    returns-then-first-xs
+    overflow_sub-second
+    overflow_add-end-2
+    offset_bounds-ys-second
+    slice_bounds-lay-count-2
+    slice_bounds-lay-start-2
+    slice_bounds-lay-end-2
     lay-requires-2
-    same-length-3
-    returns-4)
+    shape_of-out
+    returns)
