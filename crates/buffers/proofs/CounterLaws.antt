@@ -1,16 +1,16 @@
 -- Counters written anew: no buffer's word and no slot changes.
-use mathlib.Core.Path.{◌≡◌, refl, sym, ap, ◌∙◌}
+use mathlib.Core.Path.{◌≡◌, sym, ap, ◌∙◌}
 use mathlib.Core.List.{List, []}
-use Prim.Native.Nat.{ℕ, suc, ◌+◌, ◌≤◌, ◌<◌}
+use Prim.Native.Nat.{ℕ, ◌+◌, ◌≤◌, ◌<◌}
 use native.Mathlib.Omega.{arith}
-use lib.ListN.{length, get_or, set, length-set}
+use lib.ListN.{length, set, length-set}
 use lib.Seq.{ext_get_or, get_or-set_same, get_or-set_other}
 use Rattle.rules.specs.Links.{buffer_count}
-use Rattle.buffers.specs.Format.{links_in, counter_in, count_in, word_of, head_of, many, buffer_of, buffers_of}
+use Rattle.buffers.specs.Format.{links_in, count_in, word_of, head_of, many, buffer_of, buffers_of}
 use Rattle.buffers.specs.Post.{Inside}
 use Rattle.buffers.specs.Fresh.{Written}
 use Rattle.buffers.specs.Counters.{HasCounter, CounterPut}
-use Rattle.buffers.proofs.SlotLaws.{behind_book, in_words, some}
+use Rattle.buffers.proofs.SlotLaws.{some}
 use Rattle.buffers.proofs.ArrayLaws.{has, buffer_length, buffer_is, entry_at, buffers_at, buffers_length}
 
 -- a link of an array has its counter in the book

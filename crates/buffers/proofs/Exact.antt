@@ -180,7 +180,7 @@ module _ (ws : List ℕ) where
           }
         where
           at : (m : ℕ) → i ≤ m → m < i + suc n → Dec (m ≡ i) → weight ws (k_merger i) < room ws i → LinksKept (suc i) n → weight ws (k_merger m) < room ws m
-          at m low high (yes q) lt rest = rw q lt
+          at m low high (yes q) lt rest = subst (λ m. weight ws (k_merger m) < room ws m) (sym q) lt
           at m low high (no q) lt rest = rest.each m (omega arith) (omega arith)
 
   links_kept : (i n : ℕ) → links_weight ws i n < broken → LinksKept i n

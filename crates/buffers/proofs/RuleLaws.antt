@@ -64,7 +64,7 @@ module _ (b : Book) where
   marks_top (merger n size one two) true h m = h
   marks_top (merger n size one two) false h m = ap (λ t. (t implies eqb (count b n) 0) and marks_right b one t and marks_right b two t) (sym m) ∙ h
 
-  pub marks_part : (t : Tree) {t' : Tree} (above : Bool) → marks_right b t above ≡ true → Part t' t → top_marked b t' ≡ true → held_under b t' ≡ 0
+  pub marks_part : {t' : Tree} (t : Tree) (above : Bool) → marks_right b t above ≡ true → Part t' t → top_marked b t' ≡ true → held_under b t' ≡ 0
   unfolding marks_right
   marks_part t above h whole m = marks_under t (marks_top t above h m)
   marks_part (merger n size one two) above h (in_one p) m =

@@ -12,7 +12,7 @@ use Rattle.rules.specs.Tree.{Tree, exhausted, buffer, merger, perfect, k_merger,
 use Rattle.rules.specs.Book.{Book, count, together}
 use Rattle.rules.proofs.Table.{every_at, each_link_lem, k_least}
 use Rattle.buffers.specs.Slots.{capacity_of, capacities}
-use Rattle.buffers.specs.Rules.{whole, held_under}
+use Rattle.buffers.specs.Rules.{held_under}
 
 -- ---- what stands in a tree, counted by number
 

@@ -1,10 +1,10 @@
 -- A buffer's word and its three parts; what each writer makes of them.
-use mathlib.Core.Path.{◌≡◌, refl, sym, ap, ◌∙◌}
-use Prim.Native.Nat.{ℕ, zero, suc, ◌+◌, ◌*◌, ◌-◌, ◌/◌, ◌%◌, ◌≤◌, ◌<◌}
+use mathlib.Core.Path.{◌≡◌, ap, ◌∙◌}
+use Prim.Native.Nat.{ℕ, zero, suc, ◌+◌, ◌*◌, ◌-◌, ◌/◌, ◌≤◌, ◌<◌}
 use native.Mathlib.Nat.{zero-add, suc-add, add_assoc}
 use native.Mathlib.Omega.{arith}
-use mathlib.Core.List.{List, [], ◌∷◌, ◌++◌}
-use lib.ListN.{length, get_or, take, drop, set, length-drop}
+use mathlib.Core.List.{List, [], ◌∷◌}
+use lib.ListN.{take, drop, set}
 use lib.Seq.{drop-drop, take-nil}
 use Rattle.buffers.specs.Slots.{capacity_of, base}
 use Rattle.buffers.specs.Format.{count_in, start_in, mark_in, word_of, count_of, start_of, mark_of, head_of, buffer_of}

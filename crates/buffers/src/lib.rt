@@ -1,4 +1,6 @@
 // The lent array: its book and its slots. Only this crate knows where a word lies.
+#![tactic(auto)]
+
 pub mod counters;
 pub mod fresh;
 pub mod sound;

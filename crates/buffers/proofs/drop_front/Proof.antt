@@ -3,47 +3,47 @@ use Rattle.buffers.proofs.WordLaws.{drop_now, drop_word}
 use Rattle.buffers.proofs.drop_front.Statement.{statement}
 use Rattle.buffers.proofs.drop_front.Tie as tie
 
-add-w : tie.Need-overflow-add-w
-add-w c = search rules
+overflow_add-w : tie.Need-overflow_add-w
+overflow_add-w c = search rules
 
-mul-w : tie.Need-overflow-mul-w
-mul-w c = search rules
+offset_bounds-a-n : tie.Need-offset_bounds-a-n
+offset_bounds-a-n c = search rules
 
-slice-read-w : tie.Need-slice-read-w
-slice-read-w c = search rules
+bounds-a-n : tie.Need-bounds-a-n
+bounds-a-n c = search rules
 
-mul-a : tie.Need-overflow-mul-a
-mul-a c = search rules
+overflow_mul-a : tie.Need-overflow_mul-a
+overflow_mul-a c = search rules
 
-add_a : tie.Need-overflow-add-a
-add_a c = search rules
+overflow_add-a : tie.Need-overflow_add-a
+overflow_add-a c = search rules
 
-add-a-2 : tie.Need-overflow-add-a-2
-add-a-2 c = search rules
+overflow_add-a-2 : tie.Need-overflow_add-a-2
+overflow_add-a-2 c = search rules
 
-mul-a-2 : tie.Need-overflow-mul-a-2
-mul-a-2 c = search rules
+offset_bounds-a-n-2 : tie.Need-offset_bounds-a-n-2
+offset_bounds-a-n-2 c = search rules
 
-slice-write-a : tie.Need-slice-write-a
-slice-write-a c = search rules
+bounds-a-n-2 : tie.Need-bounds-a-n-2
+bounds-a-n-2 c = search rules
 
-same_length : tie.Need-same-length
-same_length c = search rules
+shape_of-a : tie.Need-shape_of-a
+shape_of-a c = search rules
 
 returns : tie.Need-returns
-returns c = (drop_now c.before.args.a.now c.before.args.n c.before.args.m c.before.requires, drop_word c.before.args.a.now c.before.args.n c.before.args.m c.before.requires)
+returns c = (drop_now c.args.a.now c.args.n c.args.m c.requires, drop_word c.args.a.now c.args.n c.args.m c.requires)
 
-pub drop-front-spec : {M : Type 1} → statement M
-drop-front-spec =
+pub drop_front_spec : {M : Type 1} → statement M
+drop_front_spec =
     tie.close
     (tie.spec
-    add-w
-    mul-w
-    slice-read-w
-    mul-a
-    add_a
-    add-a-2
-    mul-a-2
-    slice-write-a
-    same_length
+    overflow_add-w
+    offset_bounds-a-n
+    bounds-a-n
+    overflow_mul-a
+    overflow_add-a
+    overflow_add-a-2
+    offset_bounds-a-n-2
+    bounds-a-n-2
+    shape_of-a
     returns)

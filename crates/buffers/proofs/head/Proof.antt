@@ -8,17 +8,17 @@ use borrow.Author.Rules.{rules}
 use Rattle.buffers.proofs.head.Statement.{statement}
 use Rattle.buffers.proofs.head.Tie as tie
 
-start-place-requires : tie.Need-start-place-requires
-start-place-requires c κs = search rules
+start_place-requires : tie.Need-start_place-requires
+start_place-requires c κs = search rules
 
-add-p : tie.Need-overflow-add-p
-add-p c = search rules
+overflow_add-p : tie.Need-overflow_add-p
+overflow_add-p c = search rules
 
-mul-result : tie.Need-overflow-mul-result
-mul-result c = search rules
+offset_bounds-a-p : tie.Need-offset_bounds-a-p
+offset_bounds-a-p c = search rules
 
-shared-slice-read-result : tie.Need-shared-slice-read-result
-shared-slice-read-result c = search rules
+bounds-a-p : tie.Need-bounds-a-p
+bounds-a-p c = search rules
 
 returns : tie.Need-returns
 returns c =
@@ -26,9 +26,9 @@ returns c =
     let ws = z.args.a.now in
     let n = z.args.n in
     let h = z.requires in
-    let place : z.args.at + c.before.start-place.result ≡ head_of ws n + 0 = omega (arith, c.before.start-place.ensures, h.begins) in
+    let place : z.args.at + c.start_place.result ≡ head_of ws n + 0 = omega (arith, c.start_place.ensures, h.begins) in
     rw place (sym (entry_at ws n h.of 0 h.some))
 
 pub head_spec : {M : Type 1} → statement M
 head_spec =
-    tie.close (tie.spec start-place-requires add-p mul-result shared-slice-read-result returns)
+    tie.close (tie.spec start_place-requires overflow_add-p offset_bounds-a-p bounds-a-p returns)

@@ -5,19 +5,19 @@ use Rattle.buffers.proofs.counters.put_counter.Statement.{statement}
 use Rattle.buffers.proofs.counters.put_counter.Tie as tie
 
 write-requires : tie.Need-write-requires
-write-requires c κs = (c.before.before.requires.low, omega (arith, c.before.before.requires.small, c.before.before.requires.long))
+write-requires c κs = (c.requires.low, omega (arith, c.requires.small, c.requires.long))
 
-mul-a : tie.Need-overflow-mul-a
-mul-a c = omega (arith, c.before.before.before.before.before.requires.small)
+offset_bounds-a-i : tie.Need-offset_bounds-a-i
+offset_bounds-a-i c = omega (arith, c.requires.small)
 
-slice-write-a : tie.Need-slice-write-a
-slice-write-a c = put_there _ _ _ c.before.before.before.before.before.requires c.before.before.write.ensures
+bounds-a-i : tie.Need-bounds-a-i
+bounds-a-i c = put_there _ _ _ c.requires c.write.ensures
 
-same_length : tie.Need-same-length
-same_length c = (counter_put _ _ _ _ c.before.before.before.before.before.requires c.before.before.write.ensures).long
+shape_of-a : tie.Need-shape_of-a
+shape_of-a c = (counter_put _ _ _ _ c.requires c.write.ensures).long
 
 returns : tie.Need-returns
-returns c = counter_put _ _ _ _ c.before.before.before.before.before.requires c.before.before.write.ensures
+returns c = counter_put _ _ _ _ c.requires c.write.ensures
 
-pub put-counter-spec : {M : Type 1} → statement M
-put-counter-spec = tie.close (tie.spec write-requires mul-a slice-write-a same_length returns)
+pub put_counter_spec : {M : Type 1} → statement M
+put_counter_spec = tie.close (tie.spec write-requires offset_bounds-a-i bounds-a-i shape_of-a returns)

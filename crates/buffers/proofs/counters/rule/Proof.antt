@@ -8,5 +8,5 @@ returns : tie.Need-returns
 unfolding rule_in
 returns c = refl
 
-pub rule-spec : {M : Type 1} → statement M
-rule-spec = tie.close (tie.spec returns)
+pub rule_spec : {M : Type 1} → statement M
+rule_spec = tie.close (tie.spec returns)

@@ -5,47 +5,47 @@ use Rattle.buffers.proofs.FreshLaws.{Writing, write_start, write_more, write_all
 use Rattle.buffers.proofs.fresh.write.Statement.{statement}
 use Rattle.buffers.proofs.fresh.write.Tie as tie
 
-abbrev invariant-loop : tie.invariant-loop
-invariant-loop a₀ at end w n₀ a n = Writing a₀ a at end w n
+abbrev invariant-loop-n : tie.invariant-loop-n
+invariant-loop-n a₀ at end w n₀ a n = Writing a₀ a at end w n
 
-abbrev decreases-loop : tie.decreases-loop
-decreases-loop a₀ at end w n₀ a n = end - n
+abbrev decreases-loop-n : tie.decreases-loop-n
+decreases-loop-n a₀ at end w n₀ a n = end - n
 
-loop-holds : tie.Need-loop-init invariant-loop decreases-loop
-loop-holds c = write_start _ _ _ _ c.requires.0
+loop-n-init : tie.Need-loop-n-init invariant-loop-n decreases-loop-n
+loop-n-init c = write_start _ _ _ _ c.requires.0
 
-mul-a : tie.Need-overflow-mul-a invariant-loop decreases-loop
-mul-a c = omega (arith, c.before.loop.invariant.so_far.long, c.before.before.requires.1)
+offset_bounds-a-n : tie.Need-offset_bounds-a-n invariant-loop-n decreases-loop-n
+offset_bounds-a-n c = omega (arith, c.loop-n.invariant.so_far.long, c.requires.1)
 
-slice-write-a : tie.Need-slice-write-a invariant-loop decreases-loop
-slice-write-a c = omega (arith, c.before.loop.invariant.so_far.long, c.before.before.requires.1)
+bounds-a-n : tie.Need-bounds-a-n invariant-loop-n decreases-loop-n
+bounds-a-n c = omega (arith, c.loop-n.invariant.so_far.long, c.requires.1)
 
-add-n : tie.Need-overflow-add-n invariant-loop decreases-loop
-add-n c = omega arith
+overflow_add-n : tie.Need-overflow_add-n invariant-loop-n decreases-loop-n
+overflow_add-n c = omega arith
 
-loop-less : tie.Need-loop-smaller invariant-loop decreases-loop
-loop-less c = omega arith
+loop-n-smaller : tie.Need-loop-n-smaller invariant-loop-n decreases-loop-n
+loop-n-smaller c = omega arith
 
-loop-again : tie.Need-loop-preserved invariant-loop decreases-loop
-loop-again c = write_more _ _ _ _ _ _ c.loop-test.true c.before.before.requires.1 c.before.loop.invariant
+loop-n-preserved : tie.Need-loop-n-preserved invariant-loop-n decreases-loop-n
+loop-n-preserved c = write_more _ _ _ _ _ _ c.loop-n-test.true c.requires.1 c.loop-n.invariant
 
-same_length : tie.Need-same-length invariant-loop decreases-loop
-same_length c = c.before.loop.invariant.so_far.long
+shape_of-a : tie.Need-shape_of-a invariant-loop-n decreases-loop-n
+shape_of-a c = c.loop-n.invariant.so_far.long
 
-returns : tie.Need-returns invariant-loop decreases-loop
-returns c = write_all _ _ _ _ _ _ (omega (arith, c.loop-test.false)) c.before.loop.invariant
+returns : tie.Need-returns invariant-loop-n decreases-loop-n
+returns c = write_all _ _ _ _ _ _ (omega (arith, c.loop-n-test.false)) c.loop-n.invariant
 
 pub write_spec : {M : Type 1} → statement M
 write_spec =
     tie.close
     (tie.spec
-    invariant-loop
-    decreases-loop
-    loop-holds
-    mul-a
-    slice-write-a
-    add-n
-    loop-less
-    loop-again
-    same_length
+    invariant-loop-n
+    decreases-loop-n
+    loop-n-init
+    offset_bounds-a-n
+    bounds-a-n
+    overflow_add-n
+    loop-n-smaller
+    loop-n-preserved
+    shape_of-a
     returns)

@@ -9,5 +9,5 @@ weighed-requires c κs = search rules
 returns : tie.Need-returns
 returns c = below_exactly _ _ c.weighed.ensures
 
-pub book-sound-spec : {M : Type 1} → statement M
-book-sound-spec = tie.close (tie.spec weighed-requires returns)
+pub book_sound_spec : {M : Type 1} → statement M
+book_sound_spec = tie.close (tie.spec weighed-requires returns)

@@ -1,6 +1,5 @@
 use Prim.Native.Nat.{◌-◌, ◌*◌}
 use native.Mathlib.Omega.{arith}
-use borrow.Author.Tests.{not-true, not-false}
 use Rattle.rules.specs.Links.{widest}
 use Rattle.buffers.specs.Weights.{inputs}
 use Rattle.buffers.proofs.SoundLaws.{Passing, level_starts, level_under, level_wrong, level_again, level_ends}
@@ -8,120 +7,120 @@ use borrow.Author.Rules.{rules}
 use Rattle.buffers.proofs.sound.level.Statement.{statement}
 use Rattle.buffers.proofs.sound.level.Tie as tie
 
-abbrev invariant-loop : tie.invariant-loop
-invariant-loop a first low capacity below₀ j₀ below j = Passing a below₀ below first low (2 * low) capacity (inputs below₀) j
+abbrev invariant-loop-j : tie.invariant-loop-j
+invariant-loop-j a first low capacity below₀ j₀ below j = Passing a below₀ below first low (2 * low) capacity (inputs below₀) j
 
-abbrev decreases-loop : tie.decreases-loop
-decreases-loop a first low capacity below₀ j₀ below j = 2 * low - j
+abbrev decreases-loop-j : tie.decreases-loop-j
+decreases-loop-j a first low capacity below₀ j₀ below j = 2 * low - j
 
-loop-holds : tie.Need-loop-init invariant-loop decreases-loop
-loop-holds c = level_starts _ _ _ _ _ c.before.requires
+loop-j-init : tie.Need-loop-j-init invariant-loop-j decreases-loop-j
+loop-j-init c = level_starts _ _ _ _ _ c.requires
 
-mul-loop : tie.Need-overflow-mul-loop invariant-loop decreases-loop
-mul-loop c = search rules
+overflow_mul-low : tie.Need-overflow_mul-low invariant-loop-j decreases-loop-j
+overflow_mul-low c = search rules
 
-add-w : tie.Need-overflow-add-w invariant-loop decreases-loop
-add-w c = search rules
+overflow_add-w : tie.Need-overflow_add-w invariant-loop-j decreases-loop-j
+overflow_add-w c = search rules
 
-add-w-2 : tie.Need-overflow-add-w-2 invariant-loop decreases-loop
-add-w-2 c = search rules
+overflow_add-w-in-loop-j : tie.Need-overflow_add-w-in-loop-j invariant-loop-j decreases-loop-j
+overflow_add-w-in-loop-j c = search rules
 
-mul-w : tie.Need-overflow-mul-w invariant-loop decreases-loop
-mul-w c = search rules
+offset_bounds-a-first : tie.Need-offset_bounds-a-first invariant-loop-j decreases-loop-j
+offset_bounds-a-first c = search rules
 
-shared-slice-read-w : tie.Need-shared-slice-read-w invariant-loop decreases-loop
-shared-slice-read-w c = search rules
+bounds-a-first : tie.Need-bounds-a-first invariant-loop-j decreases-loop-j
+bounds-a-first c = search rules
 
-mul-held : tie.Need-overflow-mul-held invariant-loop decreases-loop
-mul-held c = search rules
+overflow_mul-held : tie.Need-overflow_mul-held invariant-loop-j decreases-loop-j
+overflow_mul-held c = search rules
 
-mul-held-2 : tie.Need-overflow-mul-held-2 invariant-loop decreases-loop
-mul-held-2 c = search rules
+offset_bounds-below-j : tie.Need-offset_bounds-below-j invariant-loop-j decreases-loop-j
+offset_bounds-below-j c = search rules
 
-element-copy-out-held : tie.Need-element-copy-out-held invariant-loop decreases-loop
+bounds-below-j : tie.Need-bounds-below-j invariant-loop-j decreases-loop-j
 unfolding widest
-element-copy-out-held c = search rules
+bounds-below-j c = search rules
 
-mul-held-3 : tie.Need-overflow-mul-held-3 invariant-loop decreases-loop
-mul-held-3 c = search rules
+overflow_mul-held-in-loop-j : tie.Need-overflow_mul-held-in-loop-j invariant-loop-j decreases-loop-j
+overflow_mul-held-in-loop-j c = search rules
 
-add-held : tie.Need-overflow-add-held invariant-loop decreases-loop
-add-held c = search rules
+overflow_add-held : tie.Need-overflow_add-held invariant-loop-j decreases-loop-j
+overflow_add-held c = search rules
 
-mul-held-4 : tie.Need-overflow-mul-held-4 invariant-loop decreases-loop
-mul-held-4 c = search rules
+offset_bounds-below-j-in-loop-j : tie.Need-offset_bounds-below-j-in-loop-j invariant-loop-j decreases-loop-j
+offset_bounds-below-j-in-loop-j c = search rules
 
-element-copy-out-held-2 : tie.Need-element-copy-out-held-2 invariant-loop decreases-loop
+bounds-below-j-in-loop-j : tie.Need-bounds-below-j-in-loop-j invariant-loop-j decreases-loop-j
 unfolding widest
-element-copy-out-held-2 c = search rules
+bounds-below-j-in-loop-j c = search rules
 
-add-held-2 : tie.Need-overflow-add-held-2 invariant-loop decreases-loop
-add-held-2 c =
+overflow_add-held-in-loop-j : tie.Need-overflow_add-held-in-loop-j invariant-loop-j decreases-loop-j
+overflow_add-held-in-loop-j c =
     let d = c.before.before.before in
-    let few = level_under _ _ _ _ _ d.before.before.before.requires _ _ d.before.loop.invariant d.loop-test.true in
+    let few = level_under _ _ _ _ _ d.requires _ _ d.loop-j.invariant d.loop-j-test.true in
     record { fits = omega arith }
 
-add-held-3 : tie.Need-overflow-add-held-3 invariant-loop decreases-loop
-add-held-3 c =
+overflow_add-held-in-loop-j-2 : tie.Need-overflow_add-held-in-loop-j-2 invariant-loop-j decreases-loop-j
+overflow_add-held-in-loop-j-2 c =
     let d = c.before.before.before in
-    let few = level_under _ _ _ _ _ d.before.before.before.requires _ _ d.before.loop.invariant d.loop-test.true in
+    let few = level_under _ _ _ _ _ d.requires _ _ d.loop-j.invariant d.loop-j-test.true in
     record { fits = omega arith }
 
-right-requires : tie.Need-right-requires invariant-loop decreases-loop
+right-requires : tie.Need-right-requires invariant-loop-j decreases-loop-j
 right-requires c κs = search rules
 
-returns : tie.Need-returns invariant-loop decreases-loop
-returns c =
+returns-then-not-right : tie.Need-returns-then-not-right invariant-loop-j decreases-loop-j
+returns-then-not-right c =
     let d = c.before.before.before.before.before in
-    level_wrong _ _ _ _ _ d.before.before.before.requires _ _ d.before.loop.invariant d.loop-test.true _ c.before.right.ensures (not-true _ c.if1.true)
+    level_wrong _ _ _ _ _ d.requires _ _ d.loop-j.invariant d.loop-j-test.true _ c.right.ensures (c.if-not-right.true)
 
-mul-below : tie.Need-overflow-mul-below invariant-loop decreases-loop
-mul-below c = search rules
+offset_bounds-below-j-in-loop-j-2 : tie.Need-offset_bounds-below-j-in-loop-j-2 invariant-loop-j decreases-loop-j
+offset_bounds-below-j-in-loop-j-2 c = search rules
 
-element-write-below : tie.Need-element-write-below invariant-loop decreases-loop
+bounds-below-j-in-loop-j-2 : tie.Need-bounds-below-j-in-loop-j-2 invariant-loop-j decreases-loop-j
 unfolding widest
-element-write-below c = search rules
+bounds-below-j-in-loop-j-2 c = search rules
 
-add-j : tie.Need-overflow-add-j invariant-loop decreases-loop
-add-j c = search rules
+overflow_add-j : tie.Need-overflow_add-j invariant-loop-j decreases-loop-j
+overflow_add-j c = search rules
 
-loop-less : tie.Need-loop-smaller invariant-loop decreases-loop
-loop-less c = search rules
+loop-j-smaller : tie.Need-loop-j-smaller invariant-loop-j decreases-loop-j
+loop-j-smaller c = search rules
 
-loop-again : tie.Need-loop-preserved invariant-loop decreases-loop
-loop-again c =
+loop-j-preserved : tie.Need-loop-j-preserved invariant-loop-j decreases-loop-j
+loop-j-preserved c =
     let d = c.before.before.before.before.before in
-    level_again _ _ _ _ _ d.before.before.before.requires _ _ d.before.loop.invariant d.loop-test.true _ c.before.right.ensures (not-false _ c.if1.false)
+    level_again _ _ _ _ _ d.requires _ _ d.loop-j.invariant d.loop-j-test.true _ c.right.ensures (c.if-not-right.false)
 
-returns-2 : tie.Need-returns-2 invariant-loop decreases-loop
-returns-2 c = level_ends _ _ _ _ _ c.before.before.before.requires _ _ c.before.loop.invariant c.loop-test.false
+returns : tie.Need-returns invariant-loop-j decreases-loop-j
+returns c = level_ends _ _ _ _ _ c.requires _ _ c.loop-j.invariant c.loop-j-test.false
 
-pub level-spec : {M : Type 1} → statement M
-level-spec =
+pub level_spec : {M : Type 1} → statement M
+level_spec =
     tie.close
     (tie.spec
-    invariant-loop
-    decreases-loop
-    loop-holds
-    mul-loop
-    add-w
-    add-w-2
-    mul-w
-    shared-slice-read-w
-    mul-held
-    mul-held-2
-    element-copy-out-held
-    mul-held-3
-    add-held
-    mul-held-4
-    element-copy-out-held-2
-    add-held-2
-    add-held-3
+    invariant-loop-j
+    decreases-loop-j
+    loop-j-init
+    overflow_mul-low
+    overflow_add-w
+    overflow_add-w-in-loop-j
+    offset_bounds-a-first
+    bounds-a-first
+    overflow_mul-held
+    offset_bounds-below-j
+    bounds-below-j
+    overflow_mul-held-in-loop-j
+    overflow_add-held
+    offset_bounds-below-j-in-loop-j
+    bounds-below-j-in-loop-j
+    overflow_add-held-in-loop-j
+    overflow_add-held-in-loop-j-2
     right-requires
-    returns
-    mul-below
-    element-write-below
-    add-j
-    loop-less
-    loop-again
-    returns-2)
+    returns-then-not-right
+    offset_bounds-below-j-in-loop-j-2
+    bounds-below-j-in-loop-j-2
+    overflow_add-j
+    loop-j-smaller
+    loop-j-preserved
+    returns)

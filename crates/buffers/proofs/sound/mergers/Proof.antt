@@ -1,6 +1,5 @@
 use mathlib.Core.Path.{sym, ap, ◌∙◌}
 use native.Mathlib.Omega.{arith}
-use borrow.Author.Tests.{not-true, not-false}
 use Rattle.rules.specs.Links.{capacity}
 use Rattle.rules.proofs.Table.{in_link}
 use Rattle.buffers.proofs.LinkWeights.{Merged, merge_starts, merge_lower, ask_capacity, ask_level, merge_again, merge_wrong, merge_ends, link_broken, link_weighed}
@@ -8,122 +7,122 @@ use borrow.Author.Rules.{rules}
 use Rattle.buffers.proofs.sound.mergers.Statement.{statement}
 use Rattle.buffers.proofs.sound.mergers.Tie as tie
 
-abbrev invariant-loop : tie.invariant-loop
-invariant-loop a i behind room below₀ l first low₀ below low = Merged a below i l.i first low
+abbrev invariant-loop-low : tie.invariant-loop-low
+invariant-loop-low a i behind room below₀ l first low₀ below low = Merged a below i l.i first low
 
-abbrev decreases-loop : tie.decreases-loop
-decreases-loop a i behind room below₀ l first low₀ below low = low
+abbrev decreases-loop-low : tie.decreases-loop-low
+decreases-loop-low a i behind room below₀ l first low₀ below low = low
 
-returns : tie.Need-returns invariant-loop decreases-loop
-returns c =
-    let p = c.before.before.requires in
-    record { is = sym (link_broken _ _ _ (p.left.none c.if1.true)); sized = p.of.sized }
+returns-then-room-eq0 : tie.Need-returns-then-room-eq0 invariant-loop-low decreases-loop-low
+returns-then-room-eq0 c =
+    let p = c.requires in
+    record { is = sym (link_broken _ _ _ (p.left.none c.if-room-eq0.true)); sized = p.of.sized }
 
-at-requires : tie.Need-at-requires invariant-loop decreases-loop
-at-requires c κs = search rules
+at-l-requires : tie.Need-at-l-requires invariant-loop-low decreases-loop-low
+at-l-requires c κs = search rules
 
-first-requires : tie.Need-first-requires invariant-loop decreases-loop
-first-requires c κs = search rules
+first-first-requires : tie.Need-first-first-requires invariant-loop-low decreases-loop-low
+first-first-requires c κs = search rules
 
-k-requires : tie.Need-k-requires invariant-loop decreases-loop
-k-requires c κs = search rules
+k-low-requires : tie.Need-k-low-requires invariant-loop-low decreases-loop-low
+k-low-requires c κs = search rules
 
-loop-holds : tie.Need-loop-init invariant-loop decreases-loop
-loop-holds c =
-    let p = c.before.before.before.before.before.requires in
+loop-low-init : tie.Need-loop-low-init invariant-loop-low decreases-loop-low
+loop-low-init c =
+    let p = c.requires in
     let at = c.before.before in
-    merge_starts _ _ _ _ _ _ p.of (p.left.right (omega arith)) at.at.ensures c.before.first.ensures c.k.ensures
+    merge_starts _ _ _ _ _ _ p.of (p.left.right (omega arith)) at.at-l.ensures c.first-first.ensures c.k-low.ensures
 
-capacity-requires : tie.Need-capacity-requires invariant-loop decreases-loop
-capacity-requires c κs = ask_capacity _ _ _ _ _ _ c.before.loop.invariant c.loop-test.true
+capacity-requires : tie.Need-capacity-requires invariant-loop-low decreases-loop-low
+capacity-requires c κs = ask_capacity _ _ _ _ _ _ c.loop-low.invariant c.loop-low-test.true
 
-level-requires : tie.Need-level-requires invariant-loop decreases-loop
-level-requires c κs = let d = c.before.before in ask_level _ _ _ _ _ _ d.before.loop.invariant d.loop-test.true
+level-requires : tie.Need-level-requires invariant-loop-low decreases-loop-low
+level-requires c κs = let d = c.before.before in ask_level _ _ _ _ _ _ d.loop-low.invariant d.loop-low-test.true
 
-returns-2 : tie.Need-returns-2 invariant-loop decreases-loop
-returns-2 c =
+returns-then-not-level : tie.Need-returns-then-not-level invariant-loop-low decreases-loop-low
+returns-then-not-level c =
     let d = c.before.before.before.before in
-    let i = d.before.loop.invariant in
-    let e = merge_wrong _ _ _ _ _ _ i d.loop-test.true _ c.before.before.before.capacity.ensures _ _ c.before.level.ensures (not-true _ c.if2.true) in
-    record { is = sym (link_broken _ _ _ e); sized = c.before.level.ensures.sized }
+    let i = d.loop-low.invariant in
+    let e = merge_wrong _ _ _ _ _ _ i d.loop-low-test.true _ c.capacity.ensures _ _ c.level.ensures (c.if-not-level.true) in
+    record { is = sym (link_broken _ _ _ e); sized = c.level.ensures.sized }
 
-loop-less : tie.Need-loop-smaller invariant-loop decreases-loop
-loop-less c = search rules
+loop-low-smaller : tie.Need-loop-low-smaller invariant-loop-low decreases-loop-low
+loop-low-smaller c = search rules
 
-loop-again : tie.Need-loop-preserved invariant-loop decreases-loop
-loop-again c =
+loop-low-preserved : tie.Need-loop-low-preserved invariant-loop-low decreases-loop-low
+loop-low-preserved c =
     let d = c.before.before.before.before in
-    merge_again _ _ _ _ _ _ d.before.loop.invariant d.loop-test.true _ c.before.before.before.capacity.ensures _ _ c.before.level.ensures (not-false _ c.if2.false)
+    merge_again _ _ _ _ _ _ d.loop-low.invariant d.loop-low-test.true _ c.capacity.ensures _ _ c.level.ensures (c.if-not-level.false)
 
-element-copy-out-lower : tie.Need-element-copy-out-lower invariant-loop decreases-loop
-element-copy-out-lower c = search rules
+bounds-below-1 : tie.Need-bounds-below-1 invariant-loop-low decreases-loop-low
+bounds-below-1 c = search rules
 
-returns-3 : tie.Need-returns-3 invariant-loop decreases-loop
-returns-3 c =
+returns-then-room-lower : tie.Need-returns-then-room-lower invariant-loop-low decreases-loop-low
+returns-then-room-lower c =
     let d = c.before.before in
     let b = d.before.before.before.before.before in
-    let e = merge_ends _ _ _ _ _ _ d.before.loop.invariant d.loop-test.false in
-    let is = b.before.before.requires.left.is (omega (arith, b.if1.false)) in
-    record { is = sym (link_broken _ _ _ (omega (arith, e, is, c.if3.true))); sized = d.before.loop.invariant.sized }
+    let e = merge_ends _ _ _ _ _ _ d.loop-low.invariant d.loop-low-test.false in
+    let is = b.requires.left.is (omega (arith, b.if-room-eq0.false)) in
+    record { is = sym (link_broken _ _ _ (omega (arith, e, is, c.if-room-lower.true))); sized = d.loop-low.invariant.sized }
 
-add-weigh : tie.Need-overflow-add-weigh invariant-loop decreases-loop
-add-weigh c = search rules
+overflow_add-first : tie.Need-overflow_add-first invariant-loop-low decreases-loop-low
+overflow_add-first c = search rules
 
-mul-weigh : tie.Need-overflow-mul-weigh invariant-loop decreases-loop
-mul-weigh c = search rules
+offset_bounds-a-first : tie.Need-offset_bounds-a-first invariant-loop-low decreases-loop-low
+offset_bounds-a-first c = search rules
 
-shared-slice-read-weigh : tie.Need-shared-slice-read-weigh invariant-loop decreases-loop
-shared-slice-read-weigh c = search rules
+bounds-a-first : tie.Need-bounds-a-first invariant-loop-low decreases-loop-low
+bounds-a-first c = search rules
 
-capacity-requires-2 : tie.Need-capacity-requires-2 invariant-loop decreases-loop
-capacity-requires-2 c κs = let i = c.before.before.before.before.loop.invariant in rw i.same (in_link i.number (omega (arith, i.some, i.within)))
+capacity-requires-2 : tie.Need-capacity-requires-2 invariant-loop-low decreases-loop-low
+capacity-requires-2 c κs = let i = c.loop-low.invariant in rw i.same (in_link i.number (omega (arith, i.some, i.within)))
 
-add-weigh-2 : tie.Need-overflow-add-weigh-2 invariant-loop decreases-loop
-add-weigh-2 c =
+overflow_add-lower : tie.Need-overflow_add-lower invariant-loop-low decreases-loop-low
+overflow_add-lower c =
     let d = c.before.before.before.before in
-    let i = d.before.loop.invariant in
-    let few = merge_lower _ _ _ _ _ _ i 1 d.loop-test.false (omega (arith, i.some)) in
+    let i = d.loop-low.invariant in
+    let few = merge_lower _ _ _ _ _ _ i 1 d.loop-low-test.false (omega (arith, i.some)) in
     record { fits = omega (arith, few) }
 
-weigh-requires : tie.Need-weigh-requires invariant-loop decreases-loop
+weigh-requires : tie.Need-weigh-requires invariant-loop-low decreases-loop-low
 weigh-requires c κs =
     let d = c.before.before.before.before in
-    let i = d.before.loop.invariant in
-    let few = merge_lower _ _ _ _ _ _ i 1 d.loop-test.false (omega (arith, i.some)) in
+    let i = d.loop-low.invariant in
+    let few = merge_lower _ _ _ _ _ _ i 1 d.loop-low-test.false (omega (arith, i.some)) in
     omega (arith, few)
 
-returns-4 : tie.Need-returns-4 invariant-loop decreases-loop
-returns-4 c =
+returns : tie.Need-returns invariant-loop-low decreases-loop-low
+returns c =
     let d = c.before.before.before.before.before in
     let b = d.before.before.before.before.before in
-    let i = d.before.loop.invariant in
-    let e = merge_ends _ _ _ _ _ _ i d.loop-test.false in
-    let size = c.before.capacity2.ensures ∙ ap (λ n. capacity n 0) i.same in
-    let is = b.before.before.requires.left.is (omega (arith, b.if1.false)) in
-    record { is = c.weigh.ensures ∙ link_weighed _ _ _ _ _ _ i.placed size e (omega (arith, is, c.before.before.before.if3.false)); sized = i.sized }
+    let i = d.loop-low.invariant in
+    let e = merge_ends _ _ _ _ _ _ i d.loop-low-test.false in
+    let size = c.capacity-2.ensures ∙ ap (λ n. capacity n 0) i.same in
+    let is = b.requires.left.is (omega (arith, b.if-room-eq0.false)) in
+    record { is = c.weigh.ensures ∙ link_weighed _ _ _ _ _ _ i.placed size e (omega (arith, is, c.if-room-lower.false)); sized = i.sized }
 
-pub mergers-spec : {M : Type 1} → statement M
-mergers-spec =
+pub mergers_spec : {M : Type 1} → statement M
+mergers_spec =
     tie.close
     (tie.spec
-    invariant-loop
-    decreases-loop
-    returns
-    at-requires
-    first-requires
-    k-requires
-    loop-holds
+    invariant-loop-low
+    decreases-loop-low
+    returns-then-room-eq0
+    at-l-requires
+    first-first-requires
+    k-low-requires
+    loop-low-init
     capacity-requires
     level-requires
-    returns-2
-    loop-less
-    loop-again
-    element-copy-out-lower
-    returns-3
-    add-weigh
-    mul-weigh
-    shared-slice-read-weigh
+    returns-then-not-level
+    loop-low-smaller
+    loop-low-preserved
+    bounds-below-1
+    returns-then-room-lower
+    overflow_add-first
+    offset_bounds-a-first
+    bounds-a-first
     capacity-requires-2
-    add-weigh-2
+    overflow_add-lower
     weigh-requires
-    returns-4)
+    returns)

@@ -5,17 +5,17 @@ use borrow.Author.Rules.{rules}
 use Rattle.buffers.proofs.sound.right.Statement.{statement}
 use Rattle.buffers.proofs.sound.right.Tie as tie
 
-add-if1 : tie.Need-overflow-add-if1
-add-if1 c = search rules
+overflow_add-w : tie.Need-overflow_add-w
+overflow_add-w c = search rules
+
+returns-then-capacity-w : tie.Need-returns-then-capacity-w
+returns-then-capacity-w c = sym (word_over _ _ _ (omega arith))
+
+returns-then-w-eq1 : tie.Need-returns-then-w-eq1
+returns-then-w-eq1 c = sym (word_marked _ _ _ (omega arith) c.if-w-eq1.true)
 
 returns : tie.Need-returns
-returns c = sym (word_over _ _ _ (omega arith))
+returns c = sym (word_unmarked _ _ _ (omega arith) c.if-w-eq1.false)
 
-returns-2 : tie.Need-returns-2
-returns-2 c = sym (word_marked _ _ _ (omega arith) c.if2.true)
-
-returns-3 : tie.Need-returns-3
-returns-3 c = sym (word_unmarked _ _ _ (omega arith) c.if2.false)
-
-pub right-spec : {M : Type 1} → statement M
-right-spec = tie.close (tie.spec add-if1 returns returns-2 returns-3)
+pub right_spec : {M : Type 1} → statement M
+right_spec = tie.close (tie.spec overflow_add-w returns-then-capacity-w returns-then-w-eq1 returns)

@@ -2,120 +2,107 @@
 use mathlib.Core.Path.{ap, ◌∙◌}
 use native.Mathlib.Omega.{arith}
 use borrow.Author.Rules.{rules}
-use borrow.Author.Tests.{not-true, not-false}
 use Rattle.rules.specs.Links.{k, s, first}
-use Rattle.rules.proofs.Link.at.Reads as at_reads
-use Rattle.rules.proofs.Link.first.Reads as first_reads
-use Rattle.rules.proofs.Link.k.Reads as k-reads
-use Rattle.rules.proofs.Link.s.Reads as s_reads
 use Rattle.buffers.proofs.LinkWeights.{Counted, no_counter, far_counter, ask_used, ask_unused, room_fits, used_wrong, unused_wrong, all_stored}
-use Rattle.buffers.proofs.sound.stretch.Reads as stretch-reads
 use Rattle.buffers.proofs.sound.stores.Statement.{statement}
 use Rattle.buffers.proofs.sound.stores.Tie as tie
-use Rattle.buffers.proofs.sound.stores.Reads as reads
-use Rattle.buffers.proofs.sound.stores.Lts as lts
 
-counted : (c : lts.After-first (at_reads.Asked, at_reads.Learnt, k-reads.Asked, k-reads.Learnt, s_reads.Asked, s_reads.Learnt, first_reads.Asked, first_reads.Learnt, stretch-reads.Asked, stretch-reads.Learnt) reads.Pre reads.Post)
-    → let g = c.before.before.before.before.before in
-    let start = g.before.before.before in
-    Counted start.args.a.now start.args.below.now start.args.i g.k.result c.first.result c.before.s.result
+counted : (c : tie.After-first-first) → Counted c.args.a.now c.args.below.now c.args.i c.k-k.result c.first-first.result c.s-s.result
 counted c =
-    let e = c.before.before.before in
-    let g = e.before.before in
-    let at = g.before.at.ensures in
+    let at = c.at-l.ensures in
     record {
-      of = g.before.before.before.requires;
-      k_is = g.k.ensures ∙ ap k at;
-      first_is = c.first.ensures ∙ ap first at;
-      s_is = c.before.s.ensures ∙ ap s at;
-      one = e.if1.false;
-      few = c.before.before.if2.false;
+      of = c.requires;
+      k_is = c.k-k.ensures ∙ ap k at;
+      first_is = c.first-first.ensures ∙ ap first at;
+      s_is = c.s-s.ensures ∙ ap s at;
+      one = c.if-c-lt1.false;
+      few = c.if-k-c.false;
     }
 
-at-requires : tie.Need-at-requires
-at-requires c κs = search rules
+at-l-requires : tie.Need-at-l-requires
+at-l-requires c κs = search rules
 
-k-requires : tie.Need-k-requires
-k-requires c κs = search rules
+k-k-requires : tie.Need-k-k-requires
+k-k-requires c κs = search rules
 
-mul-c : tie.Need-overflow-mul-c
-mul-c c = search rules
+offset_bounds-a-i : tie.Need-offset_bounds-a-i
+offset_bounds-a-i c = search rules
 
-shared-slice-read-c : tie.Need-shared-slice-read-c
-shared-slice-read-c c = search rules
+bounds-a-i : tie.Need-bounds-a-i
+bounds-a-i c = search rules
 
-returns : tie.Need-returns
-returns c = no_counter _ _ _ c.before.before.before.before.before.requires c.if1.true
+returns-then-c-lt1 : tie.Need-returns-then-c-lt1
+returns-then-c-lt1 c = no_counter _ _ _ c.requires c.if-c-lt1.true
 
-add-if2 : tie.Need-overflow-add-if2
-add-if2 c = omega (arith, ap k c.before.before.before.at.ensures)
+overflow_add-k : tie.Need-overflow_add-k
+overflow_add-k c = omega (arith, ap k c.at-l.ensures)
 
-returns-2 : tie.Need-returns-2
-returns-2 c =
+returns-then-k-c : tie.Need-returns-then-k-c
+returns-then-k-c c =
     let e = c.before in
     let g = e.before.before in
-    far_counter _ _ _ g.before.before.before.requires _ (g.k.ensures ∙ ap k g.before.at.ensures) e.if1.false c.if2.true
+    far_counter _ _ _ g.requires _ (g.k-k.ensures ∙ ap k g.at-l.ensures) e.if-c-lt1.false c.if-k-c.true
 
-s-requires : tie.Need-s-requires
-s-requires c κs = search rules
+s-s-requires : tie.Need-s-s-requires
+s-s-requires c κs = search rules
 
-first-requires : tie.Need-first-requires
-first-requires c κs = search rules
+first-first-requires : tie.Need-first-first-requires
+first-first-requires c κs = search rules
 
-sub-end : tie.Need-overflow-sub-end
-sub-end c = search rules
+overflow_sub-end : tie.Need-overflow_sub-end
+overflow_sub-end c = search rules
 
-add-end : tie.Need-overflow-add-end
-add-end c = let q = counted c in omega arith
+overflow_add-end : tie.Need-overflow_add-end
+overflow_add-end c = let q = counted c in omega arith
 
 stretch-requires : tie.Need-stretch-requires
 stretch-requires c κs = ask_used _ _ _ _ _ _ (counted c.before)
 
-returns-3 : tie.Need-returns-3
-returns-3 c = used_wrong _ _ _ _ _ _ (counted c.before.before.before) _ _ c.before.stretch.ensures (not-true _ c.if3.true)
+returns-then-not-stretch : tie.Need-returns-then-not-stretch
+returns-then-not-stretch c = used_wrong _ _ _ _ _ _ (counted c.before.before.before) _ _ c.stretch.ensures (c.if-not-stretch.true)
 
-mul-stretch : tie.Need-overflow-mul-stretch
-mul-stretch c = let q = counted c.before.before.before in omega arith
+overflow_mul-k : tie.Need-overflow_mul-k
+overflow_mul-k c = let q = counted c.before.before.before in omega arith
 
 stretch-requires-2 : tie.Need-stretch-requires-2
-stretch-requires-2 c κs = ask_unused _ _ _ _ _ _ (counted c.before.before.before.before) _ c.before.before.stretch.ensures.sized
+stretch-requires-2 c κs = ask_unused _ _ _ _ _ _ (counted c.before.before.before.before) _ c.stretch.ensures.sized
 
-returns-4 : tie.Need-returns-4
-returns-4 c =
+returns-then-not-stretch-2 : tie.Need-returns-then-not-stretch-2
+returns-then-not-stretch-2 c =
     let h = c.before.before.before in
-    unused_wrong _ _ _ _ _ _ (counted h.before.before.before) _ _ h.before.stretch.ensures (not-false _ h.if3.false) _ _ _ c.before.stretch2.ensures (not-true _ c.if4.true)
+    unused_wrong _ _ _ _ _ _ (counted h.before.before.before) _ _ h.stretch.ensures (h.if-not-stretch.false) _ _ _ c.stretch-2.ensures (c.if-not-stretch-2.true)
 
-mul-result : tie.Need-overflow-mul-result
-mul-result c = let few = room_fits _ _ _ _ _ _ (counted c.before.before.before.before.before.before) in record { fits = omega arith }
+overflow_mul-result : tie.Need-overflow_mul-result
+overflow_mul-result c = let few = room_fits _ _ _ _ _ _ (counted c.before.before.before.before.before.before) in record { fits = omega arith }
 
-add-result : tie.Need-overflow-add-result
-add-result c = let few = room_fits _ _ _ _ _ _ (counted c.before.before.before.before.before.before) in record { fits = omega arith }
+overflow_add-result : tie.Need-overflow_add-result
+overflow_add-result c = let few = room_fits _ _ _ _ _ _ (counted c.before.before.before.before.before.before) in record { fits = omega arith }
 
-returns-5 : tie.Need-returns-5
-returns-5 c =
+returns : tie.Need-returns
+returns c =
     let h = c.before.before.before in
-    all_stored _ _ _ _ _ _ (counted h.before.before.before) _ _ h.before.stretch.ensures (not-false _ h.if3.false) _ _ _ c.before.stretch2.ensures (not-false _ c.if4.false) (omega arith)
+    all_stored _ _ _ _ _ _ (counted h.before.before.before) _ _ h.stretch.ensures (h.if-not-stretch.false) _ _ _ c.stretch-2.ensures (c.if-not-stretch-2.false) (omega arith)
 
-pub stores-spec : {M : Type 1} → statement M
-stores-spec =
+pub stores_spec : {M : Type 1} → statement M
+stores_spec =
     tie.close
     (tie.spec
-    at-requires
-    k-requires
-    mul-c
-    shared-slice-read-c
-    returns
-    add-if2
-    returns-2
-    s-requires
-    first-requires
-    sub-end
-    add-end
+    at-l-requires
+    k-k-requires
+    offset_bounds-a-i
+    bounds-a-i
+    returns-then-c-lt1
+    overflow_add-k
+    returns-then-k-c
+    s-s-requires
+    first-first-requires
+    overflow_sub-end
+    overflow_add-end
     stretch-requires
-    returns-3
-    mul-stretch
+    returns-then-not-stretch
+    overflow_mul-k
     stretch-requires-2
-    returns-4
-    mul-result
-    add-result
-    returns-5)
+    returns-then-not-stretch-2
+    overflow_mul-result
+    overflow_add-result
+    returns)

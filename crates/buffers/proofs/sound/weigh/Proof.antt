@@ -4,17 +4,17 @@ use borrow.Author.Rules.{rules}
 use Rattle.buffers.proofs.sound.weigh.Statement.{statement}
 use Rattle.buffers.proofs.sound.weigh.Tie as tie
 
-add-held : tie.Need-overflow-add-held
-add-held c = search rules
+overflow_add-held : tie.Need-overflow_add-held
+overflow_add-held c = search rules
 
 right-requires : tie.Need-right-requires
 right-requires c κs = search rules
 
-returns : tie.Need-returns
-returns c = sym (weigh_true _ _ _ (sym c.before.right.ensures ∙ c.if1.true))
+returns-then-right : tie.Need-returns-then-right
+returns-then-right c = sym (weigh_true _ _ _ (sym c.right.ensures ∙ c.if-right.true))
 
-returns-2 : tie.Need-returns-2
-returns-2 c = sym (weigh_false _ _ _ (sym c.before.right.ensures ∙ c.if1.false))
+returns-else-right : tie.Need-returns-else-right
+returns-else-right c = sym (weigh_false _ _ _ (sym c.right.ensures ∙ c.if-right.false))
 
-pub weigh-spec : {M : Type 1} → statement M
-weigh-spec = tie.close (tie.spec add-held right-requires returns returns-2)
+pub weigh_spec : {M : Type 1} → statement M
+weigh_spec = tie.close (tie.spec overflow_add-held right-requires returns-then-right returns-else-right)

@@ -11,33 +11,33 @@ use borrow.Author.Rules.{rules}
 use Rattle.buffers.proofs.sound.weighed.Statement.{statement}
 use Rattle.buffers.proofs.sound.weighed.Tie as tie
 
-shared-slice-read-l : tie.Need-shared-slice-read-l
-shared-slice-read-l c = search rules
+bounds-a-0 : tie.Need-bounds-a-0
+bounds-a-0 c = search rules
 
-returns : tie.Need-returns
-returns c = broken_weighs _ (no_links _ c.if1.true)
+returns-then-l-lt1 : tie.Need-returns-then-l-lt1
+returns-then-l-lt1 c = broken_weighs _ (no_links _ c.if-l-lt1.true)
 
-returns-2 : tie.Need-returns-2
-returns-2 c = broken_weighs _ (many_links _ c.before.if1.false c.if2.true)
+returns-then-l-gt-MOST : tie.Need-returns-then-l-gt-MOST
+returns-then-l-gt-MOST c = broken_weighs _ (many_links _ c.if-l-lt1.false c.if-l-gt-MOST.true)
 
-shared-slice-read-weigh : tie.Need-shared-slice-read-weigh
-shared-slice-read-weigh c = search rules
+bounds-a-8 : tie.Need-bounds-a-8
+bounds-a-8 c = search rules
 
-weigh-requires : tie.Need-weigh-requires
-weigh-requires c κs = search rules
+weigh-inserted-requires : tie.Need-weigh-inserted-requires
+weigh-inserted-requires c κs = search rules
 
-returns-3 : tie.Need-returns-3
-returns-3 c =
+returns-then-inserted-gt7 : tie.Need-returns-then-inserted-gt7
+returns-then-inserted-gt7 c =
     let d = c.before.before.before in
-    let number : LinkNumber (links_in d.before.before.before.before.args.a.now) = record { low = d.before.if1.false; high = d.if2.false } in
-    broken_weighs _ (eight_inserted _ number _ c.before.weigh.ensures (omega arith))
+    let number : LinkNumber (links_in d.args.a.now) = record { low = d.if-l-lt1.false; high = d.if-l-gt-MOST.false } in
+    broken_weighs _ (eight_inserted _ number _ c.weigh-inserted.ensures (omega arith))
 
 links-requires : tie.Need-links-requires
 unfolding widest
 links-requires c κs = search rules
 
-add-held : tie.Need-overflow-add-held
-add-held c = record { fits = omega arith }
+overflow_add-held : tie.Need-overflow_add-held
+overflow_add-held c = record { fits = omega arith }
 
 at-requires : tie.Need-at-requires
 at-requires c κs = search rules
@@ -48,34 +48,34 @@ most-requires c κs = search rules
 -- all that was weighed, beside H
 beside-most : (c : tie.After-most)
     → let e = c.before.before.before.before in
-    weighs_right e.before.before.before.before.before.before.before.args.a.now ≡ leb (e.before.weigh.result + c.before.before.links.result) c.most.result
+    weighs_right e.args.a.now ≡ leb (e.weigh-inserted.result + c.links.result) c.most.result
 beside-most c =
     let e = c.before.before.before.before in
     let d = e.before.before.before in
-    let number : LinkNumber (links_in d.before.before.before.before.args.a.now) = record { low = d.before.if1.false; high = d.if2.false } in
-    all_weighed _ number _ e.before.weigh.ensures (omega arith) _ _ c.before.before.links.ensures.is (c.most.ensures ∙ ap most c.before.at.ensures)
+    let number : LinkNumber (links_in d.args.a.now) = record { low = d.if-l-lt1.false; high = d.if-l-gt-MOST.false } in
+    all_weighed _ number _ e.weigh-inserted.ensures (omega arith) _ _ c.links.ensures.is (c.most.ensures ∙ ap most c.at.ensures)
 
-returns-4 : tie.Need-returns-4
-returns-4 c = broken_weighs _ (beside-most c.before ∙ lt-leb _ _ c.if4.true)
+returns-then-most-held : tie.Need-returns-then-most-held
+returns-then-most-held c = broken_weighs _ (beside-most c.before ∙ lt-leb _ _ c.if-most-held.true)
 
-returns-5 : tie.Need-returns-5
-returns-5 c =
+returns : tie.Need-returns
+returns c =
     let l = c.before.before.before in
-    held_weighs _ (beside-most c.before ∙ le-leb _ _ c.if4.false) _ _ l.before.before.before.weigh.ensures l.links.ensures.is
+    held_weighs _ (beside-most c.before ∙ le-leb _ _ c.if-most-held.false) _ _ l.weigh-inserted.ensures l.links.ensures.is
 
-pub weighed-spec : {M : Type 1} → statement M
-weighed-spec =
+pub weighed_spec : {M : Type 1} → statement M
+weighed_spec =
     tie.close
     (tie.spec
-    shared-slice-read-l
-    returns
-    returns-2
-    shared-slice-read-weigh
-    weigh-requires
-    returns-3
+    bounds-a-0
+    returns-then-l-lt1
+    returns-then-l-gt-MOST
+    bounds-a-8
+    weigh-inserted-requires
+    returns-then-inserted-gt7
     links-requires
-    add-held
+    overflow_add-held
     at-requires
     most-requires
-    returns-4
-    returns-5)
+    returns-then-most-held
+    returns)
