@@ -1,6 +1,6 @@
 -- Filling over the array: what a turn of the loop leaves, and what is known where the loop begins and ends.
 use Prim.Native.Nat.{ℕ, zero, suc, ◌+◌, ◌-◌, ◌≤◌, ◌<◌}
-use mathlib.Core.Path.{◌≡◌, refl, sym, ap, ◌∙◌}
+use mathlib.Core.Path.{◌≡◌, refl, sym, ap, ◌∙◌, subst}
 use mathlib.Core.Logic.{◌≢◌, ◌⊎◌, inl, inr, ⊎_elim}
 use mathlib.Core.Bool.{Bool, true, false}
 use mathlib.Core.List.{List, [], ◌++◌}
@@ -415,10 +415,10 @@ module _ (n c : ℕ) (one two : Tree) (ws₀ : List ℕ) (among₀ : Among (merg
       }
         where
           not_one : (k : ℕ) → (StandsIn k (merger n c one two) → ⊥) → k ≢ n₁
-          not_one k out e = out (inr (inl (rw e (stands_in (top_stands n₁ one top_one)))))
+          not_one k out e = out (inr (inl (subst (λ (x : ℕ). StandsIn x one) (sym e) (stands_in (top_stands n₁ one top_one)))))
 
           not_touched : (k : ℕ) → (StandsIn k (merger n c one two) → ⊥) → (b : Bool) → Input b n₂ two → k ≢ touched_if b n₁ n₂
-          not_touched k out true input e = out (inr (inr (rw e (stands_in (top_stands n₂ two (input.counts refl))))))
+          not_touched k out true input e = out (inr (inr (subst (λ (x : ℕ). StandsIn x two) (sym e) (stands_in (top_stands n₂ two (input.counts refl))))))
           not_touched k out false input e = not_one k out e
 
           gone_on : filling key n c one two (c - filled) (buffers_of ws) ≡ plus m (filling key n c one two (c - (filled + m)) (buffers_of ws'))

@@ -1,5 +1,5 @@
 -- A run of merge steps taken together is what the rules do step by step.
-use Prim.Native.Nat.{ℕ, zero, suc, ◌+◌, ◌-◌, ◌≤◌, ◌<◌, min}
+use Prim.Native.Nat.{ℕ, zero, suc, ◌+◌, ◌≤◌, ◌<◌, min}
 use mathlib.Core.Path.{◌≡◌, refl, sym, ap, ◌∙◌}
 use mathlib.Core.Logic.{◌⊎◌, inl, inr, ⊎_elim}
 use mathlib.Core.Bool.{Bool, true, false}
@@ -8,20 +8,19 @@ use native.Mathlib.Omega.{arith}
 use native.Mathlib.Nat.{zero-add, suc-add}
 use lib.Dec.{leb}
 use lib.ListN.{length, get_or, set, length-set}
-use lib.Seq.{set-set, set_comm, set-get_or, get_or-set_same, get_or-set_other}
+use lib.Seq.{set-set, set_comm, set-get_or, get_or-set_same}
 use Rattle.rules.specs.Tree.{Buffers, Tree, exhausted, buffer, merger, entries, put}
-use Rattle.rules.specs.Merge.{Step, stop, move, Merged, merge_step, merged}
+use Rattle.rules.specs.Merge.{Step, stop, move, merge_step, merged}
 use Rattle.rules.specs.Fill.{Filled, untouched, if_empty, move_up, step_and, fill_room, fill}
 use Rattle.rules.specs.Take.{held_in}
-use Rattle.rules.proofs.Numbers.{Stands, itself, output, in_first, in_second, Outside, Apart, apart_back, Joint, Among, joint, among_first, among_second}
-use Rattle.rules.proofs.Full.{Roomy, held_below, held_seen, fill_none, fill_found_none, none_entries, no_entries}
-use Rattle.rules.proofs.Weight.{fill_held}
-use Rattle.rules.proofs.Frame.{Frame, frame_put, fill_frame, view_apart, view_set}
-use Rattle.rules.proofs.Contents.{Below, Contents, below, view}
+use Rattle.rules.proofs.Numbers.{itself, output, Outside, Apart, apart_back, Among, joint, among_first, among_second}
+use Rattle.rules.proofs.Full.{held_below, held_seen, fill_none, none_entries}
+use Rattle.rules.proofs.Frame.{frame_put, view_apart, view_set}
+use Rattle.rules.proofs.Contents.{Contents, below, view}
 use Rattle.rules.proofs.Lens.{CanHold, can_hold, can_hold_rest, view_put}
 use Rattle.rules.proofs.Steps.{Stepped, stops, from_first, from_second, stepped}
 use Rattle.runs.specs.Until.{until_empty}
-use Rattle.runs.proofs.MergeLaws.{and_then, reached, merged_suc}
+use Rattle.runs.proofs.MergeLaws.{merged_suc}
 use Rattle.mergers.specs.Moves.{run_length}
 
 -- ---- stores at the tops of trees

@@ -1,27 +1,27 @@
 -- One turn of filling: both inputs are filled where they are empty, and then a run of merge steps.
 use Prim.Native.Nat.{ℕ, zero, suc, ◌+◌, ◌-◌, ◌≤◌, ◌<◌, min}
 use mathlib.Core.Path.{◌≡◌, refl, sym, ap, ◌∙◌}
-use mathlib.Core.Logic.{◌⊎◌, inl, inr, ⊎_elim}
+use mathlib.Core.Logic.{◌⊎◌, inl, inr}
 use mathlib.Core.Bool.{Bool, true, false}
-use mathlib.Core.List.{List, [], ◌∷◌, ◌++◌}
+use mathlib.Core.List.{List, [], ◌∷◌}
 use native.Mathlib.Omega.{arith}
 use native.Mathlib.Decide.{dec_lt}
 use lib.Dec.{leb}
-use lib.ListN.{length, get_or, set}
-use Rattle.rules.specs.Tree.{Buffers, Tree, exhausted, buffer, merger, entries, put}
-use Rattle.rules.specs.Merge.{Step, stop, move, Merged, merge_step, merged}
+use lib.ListN.{length}
+use Rattle.rules.specs.Tree.{Buffers, Tree, merger, entries}
+use Rattle.rules.specs.Merge.{Step, stop, move, merge_step}
 use Rattle.rules.specs.Fill.{Filled, untouched, if_empty, move_up, step_and, fill_room, fill}
 use Rattle.rules.specs.Take.{held_in}
-use Rattle.rules.proofs.Numbers.{Stands, Among, joint, among_first, among_second}
+use Rattle.rules.proofs.Numbers.{Among, joint, among_first, among_second}
 use Rattle.rules.proofs.Full.{Roomy, fill_found_none, no_entries}
 use Rattle.rules.proofs.Weight.{fill_held}
-use Rattle.rules.proofs.Frame.{Frame, Framed, fill_frame, if_empty_frame, view_apart}
+use Rattle.rules.proofs.Frame.{Framed, fill_frame, if_empty_frame, view_apart}
 use Rattle.rules.proofs.Contents.{Contents, below, view}
 use Rattle.rules.proofs.Full.{held_seen, held_below}
 use Rattle.runs.specs.Until.{until_empty}
 use Rattle.runs.proofs.MergeLaws.{until_within, until_most}
 use Rattle.mergers.specs.Moves.{run_length}
-use Rattle.mergers.proofs.RunLaws.{Runs, runs_all, plus, filling, advanced, room_step, run_law}
+use Rattle.mergers.proofs.RunLaws.{runs_all, plus, filling, advanced, room_step, run_law}
 
 -- an input, filled where it is empty
 abbrev pub refilled : (ℕ → ℕ) → Tree → Buffers → Filled

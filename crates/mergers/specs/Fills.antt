@@ -1,5 +1,5 @@
 -- What a fill over the array asks and ensures.
-use Rattle.std.specs.Prelude.{◌≡◌, ◌⊎◌, ℕ, ◌+◌, ◌≤◌, ◌<◌, List, []}
+use Rattle.std.specs.Prelude.{◌≡◌, ◌⊎◌, ℕ, ◌+◌, ◌≤◌, ◌<◌, List}
 use Rattle.rules.specs.Links.{first, InLink}
 use Rattle.rules.specs.Tree.{Tree, exhausted, buffer, merger}
 use Rattle.rules.specs.Fill.{Filled}

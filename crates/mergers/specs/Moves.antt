@@ -1,5 +1,5 @@
 -- Merge steps between two refills, taken together.
-use Rattle.std.specs.Prelude.{ℕ, zero, suc, min, List, [], ◌∷◌, length}
+use Rattle.std.specs.Prelude.{ℕ, min, List, [], ◌∷◌, length}
 use Rattle.runs.specs.Until.{until_empty}
 
 -- the merge steps that can be made before an input has to be filled: until one that has entries is empty, or the room is used up

@@ -1,4 +1,6 @@
 // Mergers: filling a buffer from its inputs, down the tree.
+#![tactic(auto)]
+
 ghost use Rattle.std.specs.Prelude.{◌≡◌, ℕ, suc, ◌+◌, ◌*◌, ◌≤◌, ◌<◌, min, leb, length};
 ghost use Rattle.rules.specs.Entries.{key_by};
 ghost use Rattle.rules.specs.Links.{capacity, most_links, book_words};
@@ -14,7 +16,7 @@ ghost use Rattle.mergers.specs.Post.{wanted, Spot, Placed, Moving, Fed, Merging,
 use rules::{Link, Rule};
 
 // A buffer: its number, and the word at which its slots begin.
-#[derive(Drop)]
+#[derive(Clone, Copy)]
 pub struct Place {
     pub number: usize,
     pub at: usize,
@@ -59,7 +61,7 @@ pub fn second_link(i: usize, j: usize) -> usize
 }
 
 // A merger: its output with its capacity, and its two inputs; the first is buffer `first` of the same link, the second is buffer `second` of link `link`.
-#[derive(Drop)]
+#[derive(Clone, Copy)]
 pub struct Merger {
     pub out: Place,
     pub room: usize,

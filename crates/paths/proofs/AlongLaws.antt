@@ -11,9 +11,9 @@ use Rattle.rules.specs.Sweep.{counts, run_along}
 use Rattle.rules.proofs.Sizes.{first_next}
 use Rattle.rules.proofs.Table.{in_link}
 use Rattle.buffers.specs.Slots.{base}
-use Rattle.buffers.specs.Format.{count_of, start_of, many, buffer_of, buffers_of}
+use Rattle.buffers.specs.Format.{count_of, start_of, buffer_of, buffers_of}
 use Rattle.buffers.specs.Post.{Has}
-use Rattle.buffers.proofs.SlotLaws.{base_is, few}
+use Rattle.buffers.proofs.SlotLaws.{base_is}
 use Rattle.buffers.proofs.ArrayLaws.{has, buffer_length, buffers_at}
 use Rattle.runs.specs.Promises.{laid_at, stretch}
 use Rattle.runs.proofs.LayingLaws.{length_laid, laid_none, laid_on}

@@ -12,7 +12,7 @@ use Rattle.rules.specs.Merge.{join}
 use Rattle.rules.specs.Sweep.{outputs, path_in_link, path, counts, run_along, refill_path}
 use Rattle.rules.proofs.Table.{every_at, each_link_lem}
 use Rattle.buffers.specs.Slots.{capacity_of}
-use Rattle.buffers.specs.Format.{links_in, many, buffer_of, buffers_of}
+use Rattle.buffers.specs.Format.{links_in, buffer_of, buffers_of}
 use Rattle.buffers.specs.Post.{Inside}
 use Rattle.buffers.proofs.ArrayLaws.{buffer_length}
 use Rattle.paths.specs.Way.{PathIs}

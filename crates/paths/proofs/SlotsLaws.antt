@@ -10,7 +10,7 @@ use lib.ListN.{length, take, drop, set, length-take, length-drop, take-append-dr
 use lib.Seq.{drop_at, length-take-le, take-append_seam, drop-append-le, drop-drop, set-set}
 use Rattle.rules.specs.Links.{book_words}
 use Rattle.buffers.specs.Slots.{base, capacity_of, capacities}
-use Rattle.buffers.specs.Format.{word_of, count_of, start_of, many, buffer_of, buffers_of}
+use Rattle.buffers.specs.Format.{word_of, count_of, start_of, buffer_of, buffers_of}
 use Rattle.buffers.specs.Post.{Inside, Has, Only, Now, Laying}
 use Rattle.rules.specs.Insert.{placed}
 use Rattle.buffers.proofs.SlotLaws.{base_zero, some}

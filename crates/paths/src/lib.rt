@@ -1,4 +1,6 @@
 // The insertion buffer, and paths: from A(1) down to an S.
+#![tactic(auto)]
+
 ghost use Rattle.std.specs.Prelude.{◌≡◌, ◌+◌, ◌≤◌, ◌<◌, length};
 ghost use Rattle.rules.specs.Entries.{key_by};
 ghost use Rattle.rules.specs.Links.{all_buffers};

@@ -4,14 +4,14 @@ use borrow.Author.Rules.{rules}
 use Rattle.mergers.proofs.first_input.Statement.{statement}
 use Rattle.mergers.proofs.first_input.Tie as tie
 
-mul-result : tie.Need-overflow-mul-result
-mul-result c = search rules
+overflow_mul-result : tie.Need-overflow_mul-result
+overflow_mul-result c = search rules
 
-returns : tie.Need-returns
-returns c = search rules
+returns-then-j-eq0 : tie.Need-returns-then-j-eq0
+returns-then-j-eq0 c = search rules
 
-returns-2 : tie.Need-returns-2
-returns-2 c = first_input_is c.before.args.j (omega arith)
+returns-else-j-eq0 : tie.Need-returns-else-j-eq0
+returns-else-j-eq0 c = first_input_is c.args.j (omega arith)
 
-pub first-input-spec : {M : Type 1} → statement M
-first-input-spec = tie.close (tie.spec mul-result returns returns-2)
+pub first_input_spec : {M : Type 1} → statement M
+first_input_spec = tie.close (tie.spec overflow_mul-result returns-then-j-eq0 returns-else-j-eq0)

@@ -6,56 +6,56 @@ use borrow.Author.Rules.{rules}
 use Rattle.mergers.proofs.merger_of.Statement.{statement}
 use Rattle.mergers.proofs.merger_of.Tie as tie
 
-first-input-requires : tie.Need-first-input-requires
-first-input-requires c κs = search rules
+first_input-first-requires : tie.Need-first_input-first-requires
+first_input-first-requires c κs = search rules
 
-second-input-requires : tie.Need-second-input-requires
-second-input-requires c κs = search rules
+second_input-second-requires : tie.Need-second_input-second-requires
+second_input-second-requires c κs = search rules
 
-second-link-requires : tie.Need-second-link-requires
-second-link-requires c κs = search rules
+second_link-link-requires : tie.Need-second_link-link-requires
+second_link-link-requires c κs = search rules
 
-place-of-requires : tie.Need-place-of-requires
-place-of-requires c κs = search rules
+place_of-requires : tie.Need-place_of-requires
+place_of-requires c κs = search rules
 
 at-requires : tie.Need-at-requires
 at-requires c κs = search rules
 
 capacity-requires : tie.Need-capacity-requires
-capacity-requires c κs = rw c.at.ensures c.before.before.before.before.before.requires.inside
+capacity-requires c κs = rw c.at.ensures c.requires.inside
 
-place-of-requires-2 : tie.Need-place-of-requires-2
-place-of-requires-2 c κs = rw c.before.before.before.before.before.first-input.ensures (first_spot c.before.before.before.before.before.before.requires)
+place_of-requires-2 : tie.Need-place_of-requires-2
+place_of-requires-2 c κs = rw c.first_input-first.ensures (first_spot c.requires)
 
-place-of-requires-3 : tie.Need-place-of-requires-3
-place-of-requires-3 c κs = rw (c.before.before.before.before.second-link.ensures, c.before.before.before.before.before.second-input.ensures) (second_spot c.before.before.before.before.before.before.before.requires)
+place_of-requires-3 : tie.Need-place_of-requires-3
+place_of-requires-3 c κs = rw (c.second_link-link.ensures, c.second_input-second.ensures) (second_spot c.requires)
 
 returns : tie.Need-returns
 returns c =
-    let h = c.before.before.before.before.before.before.before.before.requires in (
-      c.before.before.before.before.place_of.ensures,
+    let h = c.requires in (
+      c.place_of.ensures,
       (
-        c.before.before.capacity.ensures ∙ ap (λ i. capacity i c.before.before.before.before.before.before.before.before.args.j) c.before.before.before.at.ensures,
+        c.capacity.ensures ∙ ap (λ i. capacity i c.args.j) c.at.ensures,
         (
-          rw c.before.before.before.before.before.before.before.first-input.ensures at c.before.place-of2.ensures,
+          rw c.first_input-first.ensures at c.place_of-2.ensures,
           (
-            c.before.before.before.before.before.before.before.first-input.ensures,
-            (rw (c.before.before.before.before.before.second-link.ensures, c.before.before.before.before.before.before.second-input.ensures) at c.place-of3.ensures, (c.before.before.before.before.before.before.second-input.ensures, c.before.before.before.before.before.second-link.ensures)),
+            c.first_input-first.ensures,
+            (rw (c.second_link-link.ensures, c.second_input-second.ensures) at c.place_of-3.ensures, (c.second_input-second.ensures, c.second_link-link.ensures)),
           ),
         ),
       ),
     )
 
-pub merger-of-spec : {M : Type 1} → statement M
-merger-of-spec =
+pub merger_of_spec : {M : Type 1} → statement M
+merger_of_spec =
     tie.close
     (tie.spec
-    first-input-requires
-    second-input-requires
-    second-link-requires
-    place-of-requires
+    first_input-first-requires
+    second_input-second-requires
+    second_link-link-requires
+    place_of-requires
     at-requires
     capacity-requires
-    place-of-requires-2
-    place-of-requires-3
+    place_of-requires-2
+    place_of-requires-3
     returns)

@@ -4,14 +4,14 @@ use borrow.Author.Rules.{rules}
 use Rattle.mergers.proofs.second_link.Statement.{statement}
 use Rattle.mergers.proofs.second_link.Tie as tie
 
-add-result : tie.Need-overflow-add-result
-add-result c = search rules
+overflow_add-result : tie.Need-overflow_add-result
+overflow_add-result c = search rules
 
-returns : tie.Need-returns
-returns c = second_link_next c.before.args.i c.before.args.j (omega arith)
+returns-then-j-eq0 : tie.Need-returns-then-j-eq0
+returns-then-j-eq0 c = second_link_next c.args.i c.args.j (omega arith)
 
-returns-2 : tie.Need-returns-2
-returns-2 c = second_link_is c.before.args.i c.before.args.j (omega arith)
+returns-else-j-eq0 : tie.Need-returns-else-j-eq0
+returns-else-j-eq0 c = second_link_is c.args.i c.args.j (omega arith)
 
-pub second-link-spec : {M : Type 1} → statement M
-second-link-spec = tie.close (tie.spec add-result returns returns-2)
+pub second_link_spec : {M : Type 1} → statement M
+second_link_spec = tie.close (tie.spec overflow_add-result returns-then-j-eq0 returns-else-j-eq0)

@@ -8,28 +8,28 @@ use borrow.Author.Rules.{rules}
 use Rattle.mergers.proofs.turn_steps.Statement.{statement}
 use Rattle.mergers.proofs.turn_steps.Tie as tie
 
-merge-steps-requires : tie.Need-merge-steps-requires
-merge-steps-requires c κs = c.before.before.before.requires.both (omega arith)
+merge_steps-requires : tie.Need-merge_steps-requires
+merge_steps-requires c κs = c.requires.both (omega arith)
 
-same_length : tie.Need-same-length
-same_length c = search rules
+shape_of-a-then-i-last : tie.Need-shape_of-a-then-i-last
+shape_of-a-then-i-last c = search rules
+
+returns-then-i-last : tie.Need-returns-then-i-last
+returns-then-i-last c = rw (le-leb _ _ c.if-i-last.true) c.merge_steps.ensures
+
+move_steps-requires : tie.Need-move_steps-requires
+move_steps-requires c κs = search rules
+
+shape_of-a : tie.Need-shape_of-a
+shape_of-a c = search rules
 
 returns : tie.Need-returns
-returns c = rw (le-leb _ _ c.before.before.before.before.if1.true) c.before.before.merge-steps.ensures
-
-move-steps-requires : tie.Need-move-steps-requires
-move-steps-requires c κs = search rules
-
-same-length-2 : tie.Need-same-length-2
-same-length-2 c = search rules
-
-returns-2 : tie.Need-returns-2
-returns-2 c =
+returns c =
     let z = c.before.before.before.before.before.before in
-    rw (lt-leb _ _ c.before.before.before.before.if1.false)
-    (c.before.before.move-steps.ensures.0 ∙ sym (run_one _ z.args.room (buffer_of z.args.a.now z.args.one.number)), c.before.before.move-steps.ensures.1)
+    rw (lt-leb _ _ c.if-i-last.false)
+    (c.move_steps.ensures.0 ∙ sym (run_one _ z.args.room (buffer_of z.args.a.now z.args.one.number)), c.move_steps.ensures.1)
 
-pub turn-steps-spec : {M : Type 1} → statement M
-turn-steps-spec =
+pub turn_steps_spec : {M : Type 1} → statement M
+turn_steps_spec =
     tie.close
-    (tie.spec merge-steps-requires same_length returns move-steps-requires same-length-2 returns-2)
+    (tie.spec merge_steps-requires shape_of-a-then-i-last returns-then-i-last move_steps-requires shape_of-a returns)

@@ -14,17 +14,17 @@ count-requires c κs = search rules
 exhausted-requires : tie.Need-exhausted-requires
 exhausted-requires c κs = search rules
 
-returns : tie.Need-returns
-returns c =
+returns-then-count-eq0 : tie.Need-returns-then-count-eq0
+returns-then-count-eq0 c =
     let z = c.before.before.before.before in
-    let none : count_of z.args.a.now z.args.n ≡ 0 = omega (arith, buffer_length z.args.a.now z.args.n z.requires, c.before.before.count.ensures) in
+    let none : count_of z.args.a.now z.args.n ≡ 0 = omega (arith, buffer_length z.args.a.now z.args.n z.requires, c.count.ensures) in
     rw (c.exhausted.ensures, eq-eqb (count_of z.args.a.now z.args.n) 0 none)
 
-returns-2 : tie.Need-returns-2
-returns-2 c =
+returns : tie.Need-returns
+returns c =
     let z = c.before.before.before in
-    let some : count_of z.args.a.now z.args.n ≡ 0 → ⊥ = omega (arith, buffer_length z.args.a.now z.args.n z.requires, c.before.count.ensures) in
+    let some : count_of z.args.a.now z.args.n ≡ 0 → ⊥ = omega (arith, buffer_length z.args.a.now z.args.n z.requires, c.count.ensures) in
     rw (ne_eqb (count_of z.args.a.now z.args.n) 0 some)
 
-pub wants-spec : {M : Type 1} → statement M
-wants-spec = tie.close (tie.spec count-requires exhausted-requires returns returns-2)
+pub wants_spec : {M : Type 1} → statement M
+wants_spec = tie.close (tie.spec count-requires exhausted-requires returns-then-count-eq0 returns)

@@ -5,13 +5,13 @@ use Rattle.mergers.proofs.wants_in.Statement.{statement}
 use Rattle.mergers.proofs.wants_in.Tie as tie
 
 wants-requires : tie.Need-wants-requires
-wants-requires c κs = c.before.before.requires (omega arith)
+wants-requires c κs = c.requires (omega arith)
+
+returns-then-i-last : tie.Need-returns-then-i-last
+returns-then-i-last c = rw (le-leb _ _ c.if-i-last.true) c.wants.ensures
 
 returns : tie.Need-returns
-returns c = rw (le-leb _ _ c.before.if1.true) c.wants.ensures
+returns c = rw (lt-leb _ _ c.if-i-last.false)
 
-returns-2 : tie.Need-returns-2
-returns-2 c = rw (lt-leb _ _ c.if1.false)
-
-pub wants-in-spec : {M : Type 1} → statement M
-wants-in-spec = tie.close (tie.spec wants-requires returns returns-2)
+pub wants_in_spec : {M : Type 1} → statement M
+wants_in_spec = tie.close (tie.spec wants-requires returns-then-i-last returns)

@@ -9,11 +9,11 @@ use borrow.Author.Rules.{rules}
 use Rattle.paths.proofs.base_of.Statement.{statement}
 use Rattle.paths.proofs.base_of.Tie as tie
 
-returns : tie.Need-returns
-returns c = sym base_zero ∙ ap base (sym c.if1.true)
+returns-then-n-eq0 : tie.Need-returns-then-n-eq0
+returns-then-n-eq0 c = sym base_zero ∙ ap base (sym c.if-n-eq0.true)
 
-link-of-requires : tie.Need-link-of-requires
-link-of-requires c κs = search rules
+link_of-i-requires : tie.Need-link_of-i-requires
+link_of-i-requires c κs = search rules
 
 at-requires : tie.Need-at-requires
 at-requires c κs = search rules
@@ -21,8 +21,8 @@ at-requires c κs = search rules
 first-requires : tie.Need-first-requires
 first-requires c κs = search rules
 
-sub-j : tie.Need-overflow-sub-j
-sub-j c = omega (arith, c.first.ensures ∙ ap first c.before.at.ensures, c.before.before.link-of.ensures.low)
+overflow_sub-j : tie.Need-overflow_sub-j
+overflow_sub-j c = omega (arith, c.first.ensures ∙ ap first c.at.ensures, c.link_of-i.ensures.low)
 
 at-requires-2 : tie.Need-at-requires-2
 at-requires-2 c κs = search rules
@@ -30,29 +30,29 @@ at-requires-2 c κs = search rules
 slot-requires : tie.Need-slot-requires
 slot-requires c κs =
     let d = c.before in
-    link_in d.before.before.link-of.ensures _ _ c.at2.ensures (d.first.ensures ∙ ap first d.before.at.ensures)
+    link_in d.link_of-i.ensures _ _ c.at-2.ensures (d.first.ensures ∙ ap first d.at.ensures)
 
-add-result : tie.Need-overflow-add-result
-add-result c =
+overflow_add-result : tie.Need-overflow_add-result
+overflow_add-result c =
     let d = c.before.before in
-    let whole = link_base d.before.before.link-of.ensures _ _ c.before.at2.ensures (d.first.ensures ∙ ap first d.before.at.ensures) _ c.slot.ensures in
-    omega (arith, base_small _ d.before.before.before.before.requires)
+    let whole = link_base d.link_of-i.ensures _ _ c.at-2.ensures (d.first.ensures ∙ ap first d.at.ensures) _ c.slot.ensures in
+    omega (arith, base_small _ d.requires)
 
-returns-2 : tie.Need-returns-2
-returns-2 c =
+returns : tie.Need-returns
+returns c =
     let d = c.before.before in
-    link_base d.before.before.link-of.ensures _ _ c.before.at2.ensures (d.first.ensures ∙ ap first d.before.at.ensures) _ c.slot.ensures
+    link_base d.link_of-i.ensures _ _ c.at-2.ensures (d.first.ensures ∙ ap first d.at.ensures) _ c.slot.ensures
 
-pub base-of-spec : {M : Type 1} → statement M
-base-of-spec =
+pub base_of_spec : {M : Type 1} → statement M
+base_of_spec =
     tie.close
     (tie.spec
-    returns
-    link-of-requires
+    returns-then-n-eq0
+    link_of-i-requires
     at-requires
     first-requires
-    sub-j
+    overflow_sub-j
     at-requires-2
     slot-requires
-    add-result
-    returns-2)
+    overflow_add-result
+    returns)

@@ -8,40 +8,40 @@ use borrow.Author.Rules.{rules}
 use Rattle.paths.proofs.copy_out.Statement.{statement}
 use Rattle.paths.proofs.copy_out.Tie as tie
 
-count-requires : tie.Need-count-requires
-count-requires c κs = search rules
+count-count-requires : tie.Need-count-count-requires
+count-count-requires c κs = search rules
 
-base-of-requires : tie.Need-base-of-requires
-base-of-requires c κs = search rules
+base_of-requires : tie.Need-base_of-requires
+base_of-requires c κs = search rules
 
-start-place-requires : tie.Need-start-place-requires
-start-place-requires c κs = search rules
+start_place-requires : tie.Need-start_place-requires
+start_place-requires c κs = search rules
 
-add-from : tie.Need-overflow-add-from
-add-from c = search rules
+overflow_add-from : tie.Need-overflow_add-from
+overflow_add-from c = search rules
 
-add-end : tie.Need-overflow-add-end
-add-end c =
+overflow_add-end : tie.Need-overflow_add-end
+overflow_add-end c =
     let e = c in
     let s = e.before.before.before.before.before in
     let ws = s.args.a.now in
-    omega (arith, copy_inside ws s.args.n s.args.work.now s.args.at s.requires _ _ _ e.before.before.count.ensures e.before.base-of.ensures e.start-place.ensures)
+    omega (arith, copy_inside ws s.args.n s.args.work.now s.args.at s.requires _ _ _ e.count-count.ensures e.base_of.ensures e.start_place.ensures)
 
-mul-lay : tie.Need-overflow-mul-lay
-mul-lay c = search rules
+offset_bounds-a-from : tie.Need-offset_bounds-a-from
+offset_bounds-a-from c = search rules
 
-sub-lay : tie.Need-overflow-sub-lay
-sub-lay c = search rules
+slice_bounds-lay-count : tie.Need-slice_bounds-lay-count
+slice_bounds-lay-count c = search rules
 
-part-lay-start : tie.Need-slice-bounds-lay-start
-part-lay-start c = search rules
+slice_bounds-lay-start : tie.Need-slice_bounds-lay-start
+slice_bounds-lay-start c = search rules
 
-part-lay-end : tie.Need-slice-bounds-lay-end
-part-lay-end c =
+slice_bounds-lay-end : tie.Need-slice_bounds-lay-end
+slice_bounds-lay-end c =
     let e = c.before in
     let s = e.before.before.before.before.before in
     let ws = s.args.a.now in
-    let inside = copy_inside ws s.args.n s.args.work.now s.args.at s.requires _ _ _ e.before.before.count.ensures e.before.base-of.ensures e.start-place.ensures in
+    let inside = copy_inside ws s.args.n s.args.work.now s.args.at s.requires _ _ _ e.count-count.ensures e.base_of.ensures e.start_place.ensures in
     search rules
 
 lay-requires : tie.Need-lay-requires
@@ -49,31 +49,31 @@ lay-requires c κs =
     let e = c.before.before in
     let s = e.before.before.before.before.before in
     let ws = s.args.a.now in
-    rw (copy_run ws s.args.n s.args.work.now s.args.at s.requires _ _ _ e.before.before.count.ensures e.before.base-of.ensures e.start-place.ensures) (omega (arith, s.requires.room, buffer_length ws s.args.n s.requires.of))
+    rw (copy_run ws s.args.n s.args.work.now s.args.at s.requires _ _ _ e.count-count.ensures e.base_of.ensures e.start_place.ensures) (omega (arith, s.requires.room, buffer_length ws s.args.n s.requires.of))
 
-same_length : tie.Need-same-length
-same_length c = search rules
+shape_of-work : tie.Need-shape_of-work
+shape_of-work c = search rules
 
 returns : tie.Need-returns
 returns c =
     let e = c.before.before.before.before.before in
     let s = e.before.before.before.before.before in
     let ws = s.args.a.now in
-    record { many = e.before.before.count.ensures; laid = c.before.before.lay.ensures ∙ ap (laid_at s.args.work.now s.args.at) (copy_run ws s.args.n s.args.work.now s.args.at s.requires _ _ _ e.before.before.count.ensures e.before.base-of.ensures e.start-place.ensures) }
+    record { many = e.count-count.ensures; laid = c.lay.ensures ∙ ap (laid_at s.args.work.now s.args.at) (copy_run ws s.args.n s.args.work.now s.args.at s.requires _ _ _ e.count-count.ensures e.base_of.ensures e.start_place.ensures) }
 
-pub copy-out-spec : {M : Type 1} → statement M
-copy-out-spec =
+pub copy_out_spec : {M : Type 1} → statement M
+copy_out_spec =
     tie.close
     (tie.spec
-    count-requires
-    base-of-requires
-    start-place-requires
-    add-from
-    add-end
-    mul-lay
-    sub-lay
-    part-lay-start
-    part-lay-end
+    count-count-requires
+    base_of-requires
+    start_place-requires
+    overflow_add-from
+    overflow_add-end
+    offset_bounds-a-from
+    slice_bounds-lay-count
+    slice_bounds-lay-start
+    slice_bounds-lay-end
     lay-requires
-    same_length
+    shape_of-work
     returns)

@@ -5,48 +5,43 @@ use Rattle.paths.proofs.LayOutLaws.{Empties, empties_first, empties_asks, emptie
 use Rattle.paths.proofs.empty_before.Statement.{statement}
 use Rattle.paths.proofs.empty_before.Tie as tie
 
-abbrev invariant-loop : tie.invariant-loop
-invariant-loop a₀ end n₀ a n = Empties a₀ a end n
+abbrev invariant-loop-n : tie.invariant-loop-n
+invariant-loop-n a₀ end n₀ a n = Empties a₀ a end n
 
-abbrev decreases-loop : tie.decreases-loop
-decreases-loop a₀ end n₀ a n = end - n
+abbrev decreases-loop-n : tie.decreases-loop-n
+decreases-loop-n a₀ end n₀ a n = end - n
 
-loop-holds : tie.Need-loop-init invariant-loop decreases-loop
-loop-holds c = empties_first c.before.requires
+loop-n-init : tie.Need-loop-n-init invariant-loop-n decreases-loop-n
+loop-n-init c = empties_first c.requires
 
-settle-requires : tie.Need-settle-requires invariant-loop decreases-loop
-settle-requires c κs =
-    let l = c.before.before in
-    empties_asks l.before.before.requires l.loop.invariant c.before.loop-test.true
+settle-requires : tie.Need-settle-requires invariant-loop-n decreases-loop-n
+settle-requires c κs = empties_asks c.requires c.loop-n.invariant c.loop-n-test.true
 
-add-n : tie.Need-overflow-add-n invariant-loop decreases-loop
-add-n c = omega arith
+overflow_add-n : tie.Need-overflow_add-n invariant-loop-n decreases-loop-n
+overflow_add-n c = omega arith
 
-loop-less : tie.Need-loop-smaller invariant-loop decreases-loop
-loop-less c = omega arith
+loop-n-smaller : tie.Need-loop-n-smaller invariant-loop-n decreases-loop-n
+loop-n-smaller c = omega arith
 
-loop-again : tie.Need-loop-preserved invariant-loop decreases-loop
-loop-again c =
-    let i = c.before.before.before.before in
-    let l = i.before in
-    empties_next l.before.before.requires l.loop.invariant i.loop-test.true _ c.before.before.settle.ensures.0 c.before.before.settle.ensures.1
+loop-n-preserved : tie.Need-loop-n-preserved invariant-loop-n decreases-loop-n
+loop-n-preserved c = empties_next c.requires c.loop-n.invariant c.loop-n-test.true _ c.settle.ensures.0 c.settle.ensures.1
 
-same_length : tie.Need-same-length invariant-loop decreases-loop
-same_length c = c.before.loop.invariant.kept.long
+shape_of-a : tie.Need-shape_of-a invariant-loop-n decreases-loop-n
+shape_of-a c = c.loop-n.invariant.kept.long
 
-returns : tie.Need-returns invariant-loop decreases-loop
-returns c = empties_last c.before.before.before.requires c.before.loop.invariant c.loop-test.false
+returns : tie.Need-returns invariant-loop-n decreases-loop-n
+returns c = empties_last c.requires c.loop-n.invariant c.loop-n-test.false
 
-pub empty-before-spec : {M : Type 1} → statement M
-empty-before-spec =
+pub empty_before_spec : {M : Type 1} → statement M
+empty_before_spec =
     tie.close
     (tie.spec
-    invariant-loop
-    decreases-loop
-    loop-holds
+    invariant-loop-n
+    decreases-loop-n
+    loop-n-init
     settle-requires
-    add-n
-    loop-less
-    loop-again
-    same_length
+    overflow_add-n
+    loop-n-smaller
+    loop-n-preserved
+    shape_of-a
     returns)

@@ -5,69 +5,69 @@ use Rattle.paths.proofs.AlongLaws.{Gathers, gathers_first, gathers_fits, gathers
 use Rattle.paths.proofs.gather.Statement.{statement}
 use Rattle.paths.proofs.gather.Tie as tie
 
-abbrev invariant-loop : tie.invariant-loop
-invariant-loop a path from n work₀ at copied₀ t₀ work copied t = Gathers a path from n work₀ work at copied t
+abbrev invariant-loop-t : tie.invariant-loop-t
+invariant-loop-t a path from n work₀ at copied₀ t₀ work copied t = Gathers a path from n work₀ work at copied t
 
-abbrev decreases-loop : tie.decreases-loop
-decreases-loop a path from n work₀ at copied₀ t₀ work copied t = n - t
+abbrev decreases-loop-t : tie.decreases-loop-t
+decreases-loop-t a path from n work₀ at copied₀ t₀ work copied t = n - t
 
-loop-holds : tie.Need-loop-init invariant-loop decreases-loop
-loop-holds c = gathers_first c.before.before.requires
+loop-t-init : tie.Need-loop-t-init invariant-loop-t decreases-loop-t
+loop-t-init c = gathers_first c.requires
 
-mul-copy-out : tie.Need-overflow-mul-copy-out invariant-loop decreases-loop
-mul-copy-out c = omega arith
+offset_bounds-path-t : tie.Need-offset_bounds-path-t invariant-loop-t decreases-loop-t
+offset_bounds-path-t c = omega arith
 
-element-copy-out-copy-out : tie.Need-element-copy-out-copy-out invariant-loop decreases-loop
-element-copy-out-copy-out c = omega arith
+bounds-path-t : tie.Need-bounds-path-t invariant-loop-t decreases-loop-t
+bounds-path-t c = omega arith
 
-add-copy-out : tie.Need-overflow-add-copy-out invariant-loop decreases-loop
-add-copy-out c =
+overflow_add-at : tie.Need-overflow_add-at invariant-loop-t decreases-loop-t
+overflow_add-at c =
     let l = c.before.before.before in
-    omega (arith, gathers_fits l.before.before.before.requires l.loop.invariant c.before.before.loop-test.true)
+    omega (arith, gathers_fits l.requires l.loop-t.invariant c.loop-t-test.true)
 
-copy-out-requires : tie.Need-copy-out-requires invariant-loop decreases-loop
-copy-out-requires c κs =
+copy_out-copied-requires : tie.Need-copy_out-copied-requires invariant-loop-t decreases-loop-t
+copy_out-copied-requires c κs =
     let l = c.before.before.before in
-    gathers_asks l.before.before.before.requires l.loop.invariant c.before.before.loop-test.true
+    gathers_asks l.requires l.loop-t.invariant c.loop-t-test.true
 
-add-copied : tie.Need-overflow-add-copied invariant-loop decreases-loop
-add-copied c =
+overflow_add-copied : tie.Need-overflow_add-copied invariant-loop-t decreases-loop-t
+overflow_add-copied c =
     let l = c.before.before.before.before.before.before in
     let s = l.before.before.before in
-    omega (arith, gathers_fits s.requires l.loop.invariant c.before.before.before.before.before.loop-test.true, c.before.before.copy-out.ensures.many)
+    omega (arith, gathers_fits s.requires l.loop-t.invariant c.loop-t-test.true, c.copy_out-copied.ensures.many)
 
-add-t : tie.Need-overflow-add-t invariant-loop decreases-loop
-add-t c = omega arith
+overflow_add-t : tie.Need-overflow_add-t invariant-loop-t decreases-loop-t
+overflow_add-t c = omega arith
 
-loop-less : tie.Need-loop-smaller invariant-loop decreases-loop
-loop-less c = omega arith
+loop-t-smaller : tie.Need-loop-t-smaller invariant-loop-t decreases-loop-t
+loop-t-smaller c = omega arith
 
-loop-again : tie.Need-loop-preserved invariant-loop decreases-loop
-loop-again c =
+loop-t-preserved : tie.Need-loop-t-preserved invariant-loop-t decreases-loop-t
+loop-t-preserved c =
     let l = c.before.before.before.before.before.before in
     let s = l.before.before.before in
-    gathers_next s.requires l.loop.invariant c.before.before.before.before.before.loop-test.true _ _ c.before.before.copy-out.ensures
+    gathers_next s.requires l.loop-t.invariant c.loop-t-test.true _ _ c.copy_out-copied.ensures
 
-same_length : tie.Need-same-length invariant-loop decreases-loop
-same_length c = c.before.loop.invariant.sized
+shape_of-work : tie.Need-shape_of-work invariant-loop-t decreases-loop-t
+shape_of-work c = c.loop-t.invariant.sized
 
-returns : tie.Need-returns invariant-loop decreases-loop
-returns c = gathers_last c.before.before.before.before.requires c.before.loop.invariant c.loop-test.false
+returns : tie.Need-returns invariant-loop-t decreases-loop-t
+returns c = gathers_last c.requires c.loop-t.invariant c.loop-t-test.false
 
-pub gather-spec : {M : Type 1} → statement M
-gather-spec =
+pub gather_spec : {M : Type 1} → statement M
+gather_spec =
     tie.close
     (tie.spec
-    invariant-loop
-    decreases-loop
-    loop-holds
-    mul-copy-out
-    element-copy-out-copy-out
-    add-copy-out
-    copy-out-requires
-    add-copied
-    add-t
-    loop-less
-    loop-again
-    same_length
+    invariant-loop-t
+    decreases-loop-t
+    loop-t-init
+    offset_bounds-path-t
+    bounds-path-t
+    overflow_add-at
+    copy_out-copied-requires
+    overflow_add-copied
+    overflow_add-t
+    loop-t-smaller
+    loop-t-preserved
+    shape_of-work
     returns)

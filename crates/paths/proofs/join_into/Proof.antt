@@ -8,25 +8,25 @@ use borrow.Author.Rules.{rules}
 use Rattle.paths.proofs.join_into.Statement.{statement}
 use Rattle.paths.proofs.join_into.Tie as tie
 
-join-requires : tie.Need-join-requires
-join-requires c κs = omega (arith, join_room (key_by c.before.before.before.before.args.rule) c.before.before.before.before.args.xs.now c.before.before.before.before.args.ys.now)
+join-rest-requires : tie.Need-join-rest-requires
+join-rest-requires c κs = omega (arith, join_room (key_by c.args.rule) c.args.xs.now c.args.ys.now)
 
-add_at : tie.Need-overflow-add-at
-add_at c = search rules
+overflow_add-at : tie.Need-overflow_add-at
+overflow_add-at c = search rules
 
-sub_at : tie.Need-overflow-sub-at
-sub_at c = search rules
+overflow_sub-at : tie.Need-overflow_sub-at
+overflow_sub-at c = search rules
 
 lay-requires : tie.Need-lay-requires
 lay-requires c κs = search rules
 
-same_length : tie.Need-same-length
-same_length c = search rules
+shape_of-stretch : tie.Need-shape_of-stretch
+shape_of-stretch c = search rules
 
 returns : tie.Need-returns
 returns c =
     let j = c.before.before.before.before.before.before in
-    c.before.before.lay.ensures ∙ joins_laid _ j.join.ensures _ refl j.before.before.before.before.before.requires
+    c.lay.ensures ∙ joins_laid _ j.join-rest.ensures _ refl j.requires
 
-pub join-into-spec : {M : Type 1} → statement M
-join-into-spec = tie.close (tie.spec join-requires add_at sub_at lay-requires same_length returns)
+pub join_into_spec : {M : Type 1} → statement M
+join_into_spec = tie.close (tie.spec join-rest-requires overflow_add-at overflow_sub-at lay-requires shape_of-stretch returns)

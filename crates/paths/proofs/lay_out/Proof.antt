@@ -9,137 +9,127 @@ use Rattle.paths.proofs.LayOutLaws.{Sizes, Lying, out_empties, out_again, out_wh
 use Rattle.paths.proofs.lay_out.Statement.{statement}
 use Rattle.paths.proofs.lay_out.Tie as tie
 
-abbrev invariant-loop : tie.invariant-loop
-invariant-loop a₀ links run k' size first' at₀ j₀ a at j = Sizes links k' size first' × LayingOut a₀ links × Lying a₀ a links run at j
+abbrev invariant-loop-j : tie.invariant-loop-j
+invariant-loop-j a₀ links run k' size first' at₀ j₀ a at j = Sizes links k' size first' × LayingOut a₀ links × Lying a₀ a links run at j
 
-abbrev decreases-loop : tie.decreases-loop
-decreases-loop a₀ links run k' size first' at₀ j₀ a at j = k' - j
+abbrev decreases-loop-j : tie.decreases-loop-j
+decreases-loop-j a₀ links run k' size first' at₀ j₀ a at j = k' - j
 
 -- the sizes that are read before the loop
-sized : (f : tie.After-first invariant-loop decreases-loop) → Sizes f.before.before.before.before.before.before.before.before.args.links f.before.before.before.before.k.result f.before.before.s.result (f.first.result + f.before.before.before.before.k.result)
+sized : (f : tie.After-first invariant-loop-j decreases-loop-j) → Sizes f.args.links f.k-k.result f.s-size.result (f.first.result + f.k-k.result)
 sized f =
-    let k_is = f.before.before.before.before.k.ensures ∙ ap k f.before.before.before.before.before.at.ensures in
-    record { k_is = k_is; size_is = f.before.before.s.ensures ∙ ap s f.before.before.before.at2.ensures; first_is = omega (arith, f.first.ensures ∙ ap first f.before.at3.ensures) }
+    let k_is = f.k-k.ensures ∙ ap k f.at.ensures in
+    record { k_is = k_is; size_is = f.s-size.ensures ∙ ap s f.at-2.ensures; first_is = omega (arith, f.first.ensures ∙ ap first f.at-3.ensures) }
 
-at-requires : tie.Need-at-requires invariant-loop decreases-loop
+at-requires : tie.Need-at-requires invariant-loop-j decreases-loop-j
 at-requires c κs = tt
 
-k-requires : tie.Need-k-requires invariant-loop decreases-loop
-k-requires c κs = rw c.at.ensures c.before.before.before.requires.link
+k-k-requires : tie.Need-k-k-requires invariant-loop-j decreases-loop-j
+k-k-requires c κs = rw c.at.ensures c.requires.link
 
-at-requires-2 : tie.Need-at-requires-2 invariant-loop decreases-loop
+at-requires-2 : tie.Need-at-requires-2 invariant-loop-j decreases-loop-j
 at-requires-2 c κs = tt
 
-s-requires : tie.Need-s-requires invariant-loop decreases-loop
-s-requires c κs = rw c.at2.ensures c.before.before.before.before.before.requires.link
+s-size-requires : tie.Need-s-size-requires invariant-loop-j decreases-loop-j
+s-size-requires c κs = rw c.at-2.ensures c.requires.link
 
-at-requires-3 : tie.Need-at-requires-3 invariant-loop decreases-loop
+at-requires-3 : tie.Need-at-requires-3 invariant-loop-j decreases-loop-j
 at-requires-3 c κs = tt
 
-first-requires : tie.Need-first-requires invariant-loop decreases-loop
-first-requires c κs = (omega (arith, c.at3.ensures, c.before.before.before.before.before.before.before.requires.link.low), omega (arith, c.at3.ensures, c.before.before.before.before.before.before.before.requires.link.high))
+first-requires : tie.Need-first-requires invariant-loop-j decreases-loop-j
+first-requires c κs = (omega (arith, c.at-3.ensures, c.requires.link.low), omega (arith, c.at-3.ensures, c.requires.link.high))
 
-add-first : tie.Need-overflow-add-first invariant-loop decreases-loop
-add-first c = omega (arith, (sized c).first_is, in_book, first_most c.before.before.before.before.before.before.before.before.requires.link)
+overflow_add-first : tie.Need-overflow_add-first invariant-loop-j decreases-loop-j
+overflow_add-first c = omega (arith, (sized c).first_is, in_book, first_most c.requires.link)
 
-empty-before-requires : tie.Need-empty-before-requires invariant-loop decreases-loop
-empty-before-requires c κs = rw (sized c.before).first_is (out_empties c.before.before.before.before.before.before.before.before.before.requires)
+empty_before-requires : tie.Need-empty_before-requires invariant-loop-j decreases-loop-j
+empty_before-requires c κs = rw (sized c.before).first_is (out_empties c.requires)
 
-loop-holds : tie.Need-loop-init invariant-loop decreases-loop
-loop-holds c =
+loop-j-init : tie.Need-loop-j-init invariant-loop-j decreases-loop-j
+loop-j-init c =
     let f = c.before.before.before.before in
     let z = sized f in
-    let e = rw z.first_is at c.before.before.empty-before.ensures in
-    (z, out_again f.before.before.before.before.before.before.before.before.requires _ e, lying_first f.before.before.before.before.before.before.before.before.requires _ e _)
+    let e = rw z.first_is at c.empty_before.ensures in
+    (z, out_again c.requires _ e, lying_first c.requires _ e _)
 
-part-end-requires : tie.Need-part-end-requires invariant-loop decreases-loop
-part-end-requires c κs = c.before.loop.invariant.2.inside
+part_end-end-requires : tie.Need-part_end-end-requires invariant-loop-j decreases-loop-j
+part_end-end-requires c κs = c.loop-j.invariant.2.inside
 
-add-lay-run : tie.Need-overflow-add-lay-run invariant-loop decreases-loop
-add-lay-run c =
-    let i = c.before.before in
-    let l = i.before in
-    let s₀ = l.before.before.before.before.before.before.before.before.before.before.before.before.before in
-    let z = l.loop.invariant in
-    let more : l.loop.j < k s₀.args.links = omega (arith, i.loop-test.true, z.0.k_is) in
-    omega (arith, z.0.first_is, first_most s₀.requires.link, in_book)
+overflow_add-first-in-loop-j : tie.Need-overflow_add-first-in-loop-j invariant-loop-j decreases-loop-j
+overflow_add-first-in-loop-j c =
+    let z = c.loop-j.invariant in
+    let more : c.loop-j.j < k c.args.links = omega (arith, c.loop-j-test.true, z.0.k_is) in
+    omega (arith, z.0.first_is, first_most c.requires.link, in_book)
 
-mul-lay-run : tie.Need-overflow-mul-lay-run invariant-loop decreases-loop
-mul-lay-run c = omega arith
+offset_bounds-run-at : tie.Need-offset_bounds-run-at invariant-loop-j decreases-loop-j
+offset_bounds-run-at c = omega arith
 
-sub-lay-run : tie.Need-overflow-sub-lay-run invariant-loop decreases-loop
-sub-lay-run c = omega arith
+slice_bounds-lay_run-count : tie.Need-slice_bounds-lay_run-count invariant-loop-j decreases-loop-j
+slice_bounds-lay_run-count c = omega arith
 
-part-lay-run-start : tie.Need-slice-bounds-lay-run-start invariant-loop decreases-loop
-part-lay-run-start c = omega arith
+slice_bounds-lay_run-start : tie.Need-slice_bounds-lay_run-start invariant-loop-j decreases-loop-j
+slice_bounds-lay_run-start c = omega arith
 
-part-lay-run-end : tie.Need-slice-bounds-lay-run-end invariant-loop decreases-loop
-part-lay-run-end c = omega arith
+slice_bounds-lay_run-end : tie.Need-slice_bounds-lay_run-end invariant-loop-j decreases-loop-j
+slice_bounds-lay_run-end c = omega arith
 
-lay-run-requires : tie.Need-lay-run-requires invariant-loop decreases-loop
-lay-run-requires c κs =
-    let i = c.before.before.before in
-    let l = i.before in
-    let s₀ = l.before.before.before.before.before.before.before.before.before.before.before.before.before in
-    let z = l.loop.invariant in
-    let more : l.loop.j < k s₀.args.links = omega (arith, i.loop-test.true, z.0.k_is) in
-    rw z.0.first_is (lying_asks z.1 z.2 more (rw z.0.size_is at c.before.before.part-end.ensures))
+lay_run-requires : tie.Need-lay_run-requires invariant-loop-j decreases-loop-j
+lay_run-requires c κs =
+    let z = c.loop-j.invariant in
+    let more : c.loop-j.j < k c.args.links = omega (arith, c.loop-j-test.true, z.0.k_is) in
+    rw z.0.first_is (lying_asks z.1 z.2 more (rw z.0.size_is at c.part_end-end.ensures))
 
-add-j : tie.Need-overflow-add-j invariant-loop decreases-loop
-add-j c = omega arith
+overflow_add-j : tie.Need-overflow_add-j invariant-loop-j decreases-loop-j
+overflow_add-j c = omega arith
 
-loop-less : tie.Need-loop-smaller invariant-loop decreases-loop
-loop-less c = omega arith
+loop-j-smaller : tie.Need-loop-j-smaller invariant-loop-j decreases-loop-j
+loop-j-smaller c = omega arith
 
-loop-again : tie.Need-loop-preserved invariant-loop decreases-loop
-loop-again c =
-    let i = c.before.before.before.before.before.before in
-    let l = i.before in
-    let s₀ = l.before.before.before.before.before.before.before.before.before.before.before.before.before in
-    let z = l.loop.invariant in
-    let more : l.loop.j < k s₀.args.links = omega (arith, i.loop-test.true, z.0.k_is) in
-    let now = c.before.before.lay-run.ensures in
+loop-j-preserved : tie.Need-loop-j-preserved invariant-loop-j decreases-loop-j
+loop-j-preserved c =
+    let z = c.loop-j.invariant in
+    let more : c.loop-j.j < k c.args.links = omega (arith, c.loop-j-test.true, z.0.k_is) in
+    let now = c.lay_run.ensures in
     let first_is = z.0.first_is in
-    (z.0, z.1, lying_next z.1 z.2 more (rw z.0.size_is at c.before.before.before.before.before.part-end.ensures) _ (rw first_is at now.0) (rw first_is at now.1))
+    (z.0, z.1, lying_next z.1 z.2 more (rw z.0.size_is at c.part_end-end.ensures) _ (rw first_is at now.0) (rw first_is at now.1))
 
 -- all parts are laid, behind the buffers that were emptied before
-whole : (c : tie.After-loop invariant-loop decreases-loop) → let s₀ = c.before.before.before.before.before.before.before.before.before.before.before.before.before.before in LaidOut s₀.args.a.now c.before.loop.a s₀.args.links s₀.args.run.now
+whole : (c : tie.After-loop-j invariant-loop-j decreases-loop-j) → LaidOut c.args.a.now c.loop-j.a c.args.links c.args.run.now
 whole c =
-    let l = c.before in
-    let z = l.loop.invariant in
-    let f = l.before.before.before.before.before in
-    out_whole f.before.before.before.before.before.before.before.before.requires _ _ _ (rw (sized f).first_is at l.before.before.before.empty-before.ensures) (lying_last z.1 z.2 (omega (arith, c.loop-test.false, z.0.k_is)))
+    let z = c.loop-j.invariant in
+    let f = c.before.before.before.before.before.before in
+    out_whole c.requires _ _ _ (rw (sized f).first_is at c.empty_before.ensures) (lying_last z.1 z.2 (omega (arith, c.loop-j-test.false, z.0.k_is)))
 
-same_length : tie.Need-same-length invariant-loop decreases-loop
-same_length c = (whole c).kept.long
+shape_of-a : tie.Need-shape_of-a invariant-loop-j decreases-loop-j
+shape_of-a c = (whole c).kept.long
 
-returns : tie.Need-returns invariant-loop decreases-loop
+returns : tie.Need-returns invariant-loop-j decreases-loop-j
 returns c = whole c
 
-pub lay-out-spec : {M : Type 1} → statement M
-lay-out-spec =
+pub lay_out_spec : {M : Type 1} → statement M
+lay_out_spec =
     tie.close
     (tie.spec
-    invariant-loop
-    decreases-loop
+    invariant-loop-j
+    decreases-loop-j
     at-requires
-    k-requires
+    k-k-requires
     at-requires-2
-    s-requires
+    s-size-requires
     at-requires-3
     first-requires
-    add-first
-    empty-before-requires
-    loop-holds
-    part-end-requires
-    add-lay-run
-    mul-lay-run
-    sub-lay-run
-    part-lay-run-start
-    part-lay-run-end
-    lay-run-requires
-    add-j
-    loop-less
-    loop-again
-    same_length
+    overflow_add-first
+    empty_before-requires
+    loop-j-init
+    part_end-end-requires
+    overflow_add-first-in-loop-j
+    offset_bounds-run-at
+    slice_bounds-lay_run-count
+    slice_bounds-lay_run-start
+    slice_bounds-lay_run-end
+    lay_run-requires
+    overflow_add-j
+    loop-j-smaller
+    loop-j-preserved
+    shape_of-a
     returns)

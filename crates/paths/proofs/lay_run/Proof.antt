@@ -4,29 +4,21 @@ use borrow.Author.Rules.{rules}
 use Rattle.paths.proofs.lay_run.Statement.{statement}
 use Rattle.paths.proofs.lay_run.Tie as tie
 
-base-of-requires : tie.Need-base-of-requires
-base-of-requires c κs = search rules
+base_of-at-requires : tie.Need-base_of-at-requires
+base_of-at-requires c κs = search rules
 
 lay-requires : tie.Need-lay-requires
 lay-requires c κs = search rules
 
 settle-requires : tie.Need-settle-requires
-settle-requires c κs =
-    let p = c.before.before.before in
-    let b = p.before.before in
-    let s = b.before.before.before in
-    lay_laying s.args.a.now s.args.n s.args.run.now s.requires _ b.base-of.ensures _ p.lay.ensures
+settle-requires c κs = lay_laying c.args.a.now c.args.n c.args.run.now c.requires _ c.base_of-at.ensures _ c.lay.ensures
 
-same_length : tie.Need-same-length
-same_length c = search rules
+shape_of-a : tie.Need-shape_of-a
+shape_of-a c = search rules
 
 returns : tie.Need-returns
-returns c =
-    let p = c.before.before.before.before.before.before in
-    let b = p.before.before in
-    let s = b.before.before.before in
-    (lay_now s.args.a.now s.args.n s.args.run.now s.requires _ b.base-of.ensures _ p.lay.ensures _ c.before.before.settle.ensures.0, c.before.before.settle.ensures.1)
+returns c = (lay_now c.args.a.now c.args.n c.args.run.now c.requires _ c.base_of-at.ensures _ c.lay.ensures _ c.settle.ensures.0, c.settle.ensures.1)
 
-pub lay-run-spec : {M : Type 1} → statement M
-lay-run-spec =
-    tie.close (tie.spec base-of-requires lay-requires settle-requires same_length returns)
+pub lay_run_spec : {M : Type 1} → statement M
+lay_run_spec =
+    tie.close (tie.spec base_of-at-requires lay-requires settle-requires shape_of-a returns)

@@ -5,57 +5,57 @@ use Rattle.paths.proofs.AlongLaws.{Notes, path_has, notes_first, notes_next, not
 use Rattle.paths.proofs.note.Statement.{statement}
 use Rattle.paths.proofs.note.Tie as tie
 
-abbrev invariant-loop : tie.invariant-loop
-invariant-loop a path n counts₀ t₀ counts t = Notes a path n counts t
+abbrev invariant-loop-t : tie.invariant-loop-t
+invariant-loop-t a path n counts₀ t₀ counts t = Notes a path n counts t
 
-abbrev decreases-loop : tie.decreases-loop
-decreases-loop a path n counts₀ t₀ counts t = n - t
+abbrev decreases-loop-t : tie.decreases-loop-t
+decreases-loop-t a path n counts₀ t₀ counts t = n - t
 
-loop-holds : tie.Need-loop-init invariant-loop decreases-loop
-loop-holds c = notes_first c.before.requires
+loop-t-init : tie.Need-loop-t-init invariant-loop-t decreases-loop-t
+loop-t-init c = notes_first c.requires
 
-mul-count : tie.Need-overflow-mul-count invariant-loop decreases-loop
-mul-count c = omega arith
+offset_bounds-path-t : tie.Need-offset_bounds-path-t invariant-loop-t decreases-loop-t
+offset_bounds-path-t c = omega arith
 
-element-copy-out-count : tie.Need-element-copy-out-count invariant-loop decreases-loop
-element-copy-out-count c = omega arith
+bounds-path-t : tie.Need-bounds-path-t invariant-loop-t decreases-loop-t
+bounds-path-t c = omega arith
 
-count-requires : tie.Need-count-requires invariant-loop decreases-loop
-count-requires c κs = path_has c.before.before.before.before.requires.path _ c.before.loop-test.true
+count-requires : tie.Need-count-requires invariant-loop-t decreases-loop-t
+count-requires c κs = path_has c.requires.path _ c.loop-t-test.true
 
-mul-counts : tie.Need-overflow-mul-counts invariant-loop decreases-loop
-mul-counts c = omega arith
+offset_bounds-counts-t : tie.Need-offset_bounds-counts-t invariant-loop-t decreases-loop-t
+offset_bounds-counts-t c = omega arith
 
-element-write-counts : tie.Need-element-write-counts invariant-loop decreases-loop
-element-write-counts c = omega arith
+bounds-counts-t : tie.Need-bounds-counts-t invariant-loop-t decreases-loop-t
+bounds-counts-t c = omega arith
 
-add-t : tie.Need-overflow-add-t invariant-loop decreases-loop
-add-t c = omega arith
+overflow_add-t : tie.Need-overflow_add-t invariant-loop-t decreases-loop-t
+overflow_add-t c = omega arith
 
-loop-less : tie.Need-loop-smaller invariant-loop decreases-loop
-loop-less c = omega arith
+loop-t-smaller : tie.Need-loop-t-smaller invariant-loop-t decreases-loop-t
+loop-t-smaller c = omega arith
 
-loop-again : tie.Need-loop-preserved invariant-loop decreases-loop
-loop-again c =
+loop-t-preserved : tie.Need-loop-t-preserved invariant-loop-t decreases-loop-t
+loop-t-preserved c =
     let l = c.before.before.before in
-    notes_next l.before.before.requires l.loop.invariant c.before.before.loop-test.true _ c.count.ensures
+    notes_next l.requires l.loop-t.invariant c.loop-t-test.true _ c.count.ensures
 
-returns : tie.Need-returns invariant-loop decreases-loop
-returns c = notes_last c.before.loop.invariant c.loop-test.false
+returns : tie.Need-returns invariant-loop-t decreases-loop-t
+returns c = notes_last c.loop-t.invariant c.loop-t-test.false
 
-pub note-spec : {M : Type 1} → statement M
-note-spec =
+pub note_spec : {M : Type 1} → statement M
+note_spec =
     tie.close
     (tie.spec
-    invariant-loop
-    decreases-loop
-    loop-holds
-    mul-count
-    element-copy-out-count
+    invariant-loop-t
+    decreases-loop-t
+    loop-t-init
+    offset_bounds-path-t
+    bounds-path-t
     count-requires
-    mul-counts
-    element-write-counts
-    add-t
-    loop-less
-    loop-again
+    offset_bounds-counts-t
+    bounds-counts-t
+    overflow_add-t
+    loop-t-smaller
+    loop-t-preserved
     returns)

@@ -7,61 +7,61 @@ use Rattle.paths.proofs.WayLaws.{Outputs, outputs_first, outputs_next, outputs_l
 use Rattle.paths.proofs.outputs_before.Statement.{statement}
 use Rattle.paths.proofs.outputs_before.Tie as tie
 
-abbrev invariant-loop : tie.invariant-loop
-invariant-loop i path₀ n₀ path n = Outputs i path n
+abbrev invariant-loop-n : tie.invariant-loop-n
+invariant-loop-n i path₀ n₀ path n = Outputs i path n
 
-abbrev decreases-loop : tie.decreases-loop
-decreases-loop i path₀ n₀ path n = i - n
+abbrev decreases-loop-n : tie.decreases-loop-n
+decreases-loop-n i path₀ n₀ path n = i - n
 
-loop-holds : tie.Need-loop-init invariant-loop decreases-loop
-loop-holds c = outputs_first _ _ c.requires
+loop-n-init : tie.Need-loop-n-init invariant-loop-n decreases-loop-n
+loop-n-init c = outputs_first _ _ c.requires
 
-add-loop : tie.Need-overflow-add-loop invariant-loop decreases-loop
-add-loop c = omega arith
+overflow_add-n : tie.Need-overflow_add-n invariant-loop-n decreases-loop-n
+overflow_add-n c = omega arith
 
-add_at : tie.Need-overflow-add-at invariant-loop decreases-loop
-add_at c = omega arith
+overflow_add-n-in-loop-n : tie.Need-overflow_add-n-in-loop-n invariant-loop-n decreases-loop-n
+overflow_add-n-in-loop-n c = omega arith
 
-at-requires : tie.Need-at-requires invariant-loop decreases-loop
+at-requires : tie.Need-at-requires invariant-loop-n decreases-loop-n
 at-requires c κs = tt
 
-first-requires : tie.Need-first-requires invariant-loop decreases-loop
+first-requires : tie.Need-first-requires invariant-loop-n decreases-loop-n
 first-requires c κs = (omega (arith, c.at.ensures), omega (arith, c.at.ensures))
 
-mul-path : tie.Need-overflow-mul-path invariant-loop decreases-loop
-mul-path c = omega arith
+offset_bounds-path-n : tie.Need-offset_bounds-path-n invariant-loop-n decreases-loop-n
+offset_bounds-path-n c = omega arith
 
-element-write-path : tie.Need-element-write-path invariant-loop decreases-loop
-element-write-path c = omega arith
+bounds-path-n : tie.Need-bounds-path-n invariant-loop-n decreases-loop-n
+bounds-path-n c = omega arith
 
-add-n : tie.Need-overflow-add-n invariant-loop decreases-loop
-add-n c = omega arith
+overflow_add-n-in-loop-n-2 : tie.Need-overflow_add-n-in-loop-n-2 invariant-loop-n decreases-loop-n
+overflow_add-n-in-loop-n-2 c = omega arith
 
-loop-less : tie.Need-loop-smaller invariant-loop decreases-loop
-loop-less c = omega arith
+loop-n-smaller : tie.Need-loop-n-smaller invariant-loop-n decreases-loop-n
+loop-n-smaller c = omega arith
 
-loop-again : tie.Need-loop-preserved invariant-loop decreases-loop
-loop-again c =
+loop-n-preserved : tie.Need-loop-n-preserved invariant-loop-n decreases-loop-n
+loop-n-preserved c =
     let l = c.before.before.before in
-    outputs_next l.before.requires l.loop.invariant c.before.before.loop-test.true _ (c.first.ensures ∙ ap first c.before.at.ensures)
+    outputs_next l.requires l.loop-n.invariant c.loop-n-test.true _ (c.first.ensures ∙ ap first c.at.ensures)
 
-returns : tie.Need-returns invariant-loop decreases-loop
-returns c = outputs_last c.before.loop.invariant c.loop-test.false
+returns : tie.Need-returns invariant-loop-n decreases-loop-n
+returns c = outputs_last c.loop-n.invariant c.loop-n-test.false
 
-pub outputs-before-spec : {M : Type 1} → statement M
-outputs-before-spec =
+pub outputs_before_spec : {M : Type 1} → statement M
+outputs_before_spec =
     tie.close
     (tie.spec
-    invariant-loop
-    decreases-loop
-    loop-holds
-    add-loop
-    add_at
+    invariant-loop-n
+    decreases-loop-n
+    loop-n-init
+    overflow_add-n
+    overflow_add-n-in-loop-n
     at-requires
     first-requires
-    mul-path
-    element-write-path
-    add-n
-    loop-less
-    loop-again
+    offset_bounds-path-n
+    bounds-path-n
+    overflow_add-n-in-loop-n-2
+    loop-n-smaller
+    loop-n-preserved
     returns)

@@ -7,94 +7,94 @@ use Rattle.paths.proofs.WayLaws.{Walk, walk_first, walk_on, next_few, walk_next,
 use Rattle.paths.proofs.path_to.Statement.{statement}
 use Rattle.paths.proofs.path_to.Tie as tie
 
-abbrev invariant-loop : tie.invariant-loop
-invariant-loop i j path₀ first' k' last above₀ n₀ path above n = Walk i j path n above
+abbrev invariant-loop-above : tie.invariant-loop-above
+invariant-loop-above i j path₀ first' k' last above₀ n₀ path above n = Walk i j path n above
 
-abbrev decreases-loop : tie.decreases-loop
-decreases-loop i j path₀ first' k' last above₀ n₀ path above n = 2 * i + 1 - n
+abbrev decreases-loop-above : tie.decreases-loop-above
+decreases-loop-above i j path₀ first' k' last above₀ n₀ path above n = 2 * i + 1 - n
 
 -- the sizes that are read before the loop
-k-read : (d : tie.After-k invariant-loop decreases-loop) → d.k.result ≡ k d.before.before.before.before.before.before.args.i
-k-read d = d.k.ensures ∙ ap k d.before.at2.ensures
+k-read : (d : tie.After-k-k invariant-loop-above decreases-loop-above) → d.k-k.result ≡ k d.args.i
+k-read d = d.k-k.ensures ∙ ap k d.at-2.ensures
 
-first_read : (d : tie.After-k invariant-loop decreases-loop) → d.before.before.first.result ≡ first d.before.before.before.before.before.before.args.i
-first_read d = d.before.before.first.ensures ∙ ap first d.before.before.before.at.ensures
+first_read : (d : tie.After-k-k invariant-loop-above decreases-loop-above) → d.first-first.result ≡ first d.args.i
+first_read d = d.first-first.ensures ∙ ap first d.at.ensures
 
-outputs-before-requires : tie.Need-outputs-before-requires invariant-loop decreases-loop
-outputs-before-requires c κs = c.before.requires.way
+outputs_before-requires : tie.Need-outputs_before-requires invariant-loop-above decreases-loop-above
+outputs_before-requires c κs = c.requires.way
 
-at-requires : tie.Need-at-requires invariant-loop decreases-loop
+at-requires : tie.Need-at-requires invariant-loop-above decreases-loop-above
 at-requires c κs = tt
 
-first-requires : tie.Need-first-requires invariant-loop decreases-loop
-first-requires c κs = (omega (arith, c.at.ensures, c.before.before.before.requires.way.link.low), omega (arith, c.at.ensures, c.before.before.before.requires.way.link.high))
+first-first-requires : tie.Need-first-first-requires invariant-loop-above decreases-loop-above
+first-first-requires c κs = (omega (arith, c.at.ensures, c.requires.way.link.low), omega (arith, c.at.ensures, c.requires.way.link.high))
 
-at-requires-2 : tie.Need-at-requires-2 invariant-loop decreases-loop
+at-requires-2 : tie.Need-at-requires-2 invariant-loop-above decreases-loop-above
 at-requires-2 c κs = tt
 
-k-requires : tie.Need-k-requires invariant-loop decreases-loop
-k-requires c κs = rw c.at2.ensures c.before.before.before.before.before.requires.way.link
+k-k-requires : tie.Need-k-k-requires invariant-loop-above decreases-loop-above
+k-k-requires c κs = rw c.at-2.ensures c.requires.way.link
 
-sub-last : tie.Need-overflow-sub-last invariant-loop decreases-loop
-sub-last c = omega arith
+overflow_sub-last : tie.Need-overflow_sub-last invariant-loop-above decreases-loop-above
+overflow_sub-last c = omega arith
 
-add-last : tie.Need-overflow-add-last invariant-loop decreases-loop
-add-last c = omega (arith, k-read c, c.before.before.before.before.before.before.requires.high, c.before.before.before.before.before.before.requires.few)
+overflow_add-last : tie.Need-overflow_add-last invariant-loop-above decreases-loop-above
+overflow_add-last c = omega (arith, k-read c, c.requires.high, c.requires.few)
 
-mul-above : tie.Need-overflow-mul-above invariant-loop decreases-loop
-mul-above c = omega (arith, k-read c, c.before.before.before.before.before.before.requires.few)
+overflow_mul-above : tie.Need-overflow_mul-above invariant-loop-above decreases-loop-above
+overflow_mul-above c = omega (arith, k-read c, c.requires.few)
 
-sub-n : tie.Need-overflow-sub-n invariant-loop decreases-loop
-sub-n c = omega arith
+overflow_sub-n : tie.Need-overflow_sub-n invariant-loop-above decreases-loop-above
+overflow_sub-n c = omega arith
 
-loop-holds : tie.Need-loop-init invariant-loop decreases-loop
-loop-holds c = walk_first c.before.before.before.before.before.before.requires c.before.before.before.before.outputs-before.ensures _ (k-read c)
+loop-above-init : tie.Need-loop-above-init invariant-loop-above decreases-loop-above
+loop-above-init c = walk_first c.requires c.outputs_before.ensures _ (k-read c)
 
-div-path : tie.Need-nonzero-div-path invariant-loop decreases-loop
-div-path c = omega arith
+nonzero_div-path : tie.Need-nonzero_div-path invariant-loop-above decreases-loop-above
+nonzero_div-path c = omega arith
 
-add-path : tie.Need-overflow-add-path invariant-loop decreases-loop
-add-path c = omega (arith, next_few c.before.before.before.before.before.before.before.before.requires c.before.loop.invariant c.loop-test.true _ _ (first_read c.before.before) (k-read c.before.before))
+overflow_add-path : tie.Need-overflow_add-path invariant-loop-above decreases-loop-above
+overflow_add-path c = omega (arith, next_few c.requires c.loop-above.invariant c.loop-above-test.true _ _ (first_read c.before.before) (k-read c.before.before))
 
-mul-path : tie.Need-overflow-mul-path invariant-loop decreases-loop
-mul-path c = omega (arith, walk_on c.before.before.before.before.before.before.before.before.requires c.before.loop.invariant c.loop-test.true, c.before.before.before.before.before.before.before.before.requires.way.link.high)
+offset_bounds-path-n : tie.Need-offset_bounds-path-n invariant-loop-above decreases-loop-above
+offset_bounds-path-n c = omega (arith, walk_on c.requires c.loop-above.invariant c.loop-above-test.true, c.requires.way.link.high)
 
-element-write-path : tie.Need-element-write-path invariant-loop decreases-loop
-element-write-path c = omega (arith, walk_on c.before.before.before.before.before.before.before.before.requires c.before.loop.invariant c.loop-test.true, c.before.before.before.before.before.before.before.before.requires.way.link.high)
+bounds-path-n : tie.Need-bounds-path-n invariant-loop-above decreases-loop-above
+bounds-path-n c = omega (arith, walk_on c.requires c.loop-above.invariant c.loop-above-test.true, c.requires.way.link.high)
 
-add-n : tie.Need-overflow-add-n invariant-loop decreases-loop
-add-n c = omega (arith, walk_on c.before.before.before.before.before.before.before.before.requires c.before.loop.invariant c.loop-test.true, c.before.before.before.before.before.before.before.before.requires.way.link.high)
+overflow_add-n : tie.Need-overflow_add-n invariant-loop-above decreases-loop-above
+overflow_add-n c = omega (arith, walk_on c.requires c.loop-above.invariant c.loop-above-test.true, c.requires.way.link.high)
 
-loop-less : tie.Need-loop-smaller invariant-loop decreases-loop
-loop-less c = omega (arith, walk_on c.before.before.before.before.before.before.before.before.requires c.before.loop.invariant c.loop-test.true, c.before.before.before.before.before.before.before.before.requires.way.link.high)
+loop-above-smaller : tie.Need-loop-above-smaller invariant-loop-above decreases-loop-above
+loop-above-smaller c = omega (arith, walk_on c.requires c.loop-above.invariant c.loop-above-test.true, c.requires.way.link.high)
 
-loop-again : tie.Need-loop-preserved invariant-loop decreases-loop
-loop-again c = walk_next c.before.before.before.before.before.before.before.before.requires c.before.loop.invariant c.loop-test.true _ _ (first_read c.before.before) (k-read c.before.before)
+loop-above-preserved : tie.Need-loop-above-preserved invariant-loop-above decreases-loop-above
+loop-above-preserved c = walk_next c.requires c.loop-above.invariant c.loop-above-test.true _ _ (first_read c.before.before.before) (k-read c.before.before.before)
 
-returns : tie.Need-returns invariant-loop decreases-loop
-returns c = walk_last c.before.before.before.before.before.before.before.before.requires c.before.loop.invariant c.loop-test.false
+returns : tie.Need-returns invariant-loop-above decreases-loop-above
+returns c = walk_last c.requires c.loop-above.invariant c.loop-above-test.false
 
-pub path-to-spec : {M : Type 1} → statement M
-path-to-spec =
+pub path_to_spec : {M : Type 1} → statement M
+path_to_spec =
     tie.close
     (tie.spec
-    invariant-loop
-    decreases-loop
-    outputs-before-requires
+    invariant-loop-above
+    decreases-loop-above
+    outputs_before-requires
     at-requires
-    first-requires
+    first-first-requires
     at-requires-2
-    k-requires
-    sub-last
-    add-last
-    mul-above
-    sub-n
-    loop-holds
-    div-path
-    add-path
-    mul-path
-    element-write-path
-    add-n
-    loop-less
-    loop-again
+    k-k-requires
+    overflow_sub-last
+    overflow_add-last
+    overflow_mul-above
+    overflow_sub-n
+    loop-above-init
+    nonzero_div-path
+    overflow_add-path
+    offset_bounds-path-n
+    bounds-path-n
+    overflow_add-n
+    loop-above-smaller
+    loop-above-preserved
     returns)

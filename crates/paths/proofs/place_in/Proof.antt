@@ -1,99 +1,97 @@
 -- The loop keeps: t entries are laid, and what is held goes before those that are not read.
 use mathlib.Core.Path.{sym, ◌∙◌}
-use mathlib.Core.Logic.{⊎_elim}
 use Prim.Native.Nat.{◌-◌}
 use native.Mathlib.Omega.{arith}
 use lib.ListN.{length-set}
 use Rattle.rules.specs.Entries.{key_by}
 use Rattle.paths.proofs.PlacingLaws.{Turn, turn_first, lays_read, lays_first, lays_held, turn_last}
 use Rattle.paths.proofs.place_in.Statement.{statement}
+use Rattle.paths.proofs.place_in.Lts.{then-ahead+then-goes_first, else-ahead, else-ahead-via-then-ahead+else-goes_first, else-ahead-via-else-ahead}
 use Rattle.paths.proofs.place_in.Tie as tie
 
-abbrev invariant-loop : tie.invariant-loop
-invariant-loop rule slots₀ start count entry t₀ held₀ ahead₀ slots t held ahead = Turn (key_by rule) slots₀ slots start count entry t held ahead
+abbrev invariant-loop-t : tie.invariant-loop-t
+invariant-loop-t rule slots₀ start count entry t₀ held₀ ahead₀ slots t held ahead = Turn (key_by rule) slots₀ slots start count entry t held ahead
 
-abbrev decreases-loop : tie.decreases-loop
-decreases-loop rule slots₀ start count entry t₀ held₀ ahead₀ slots t held ahead = count - t
+abbrev decreases-loop-t : tie.decreases-loop-t
+decreases-loop-t rule slots₀ start count entry t₀ held₀ ahead₀ slots t held ahead = count - t
 
-loop-holds : tie.Need-loop-init invariant-loop decreases-loop
-loop-holds c = turn_first _ _ _ _ _
+loop-t-init : tie.Need-loop-t-init invariant-loop-t decreases-loop-t
+loop-t-init c = turn_first _ _ _ _ _
 
-add-x : tie.Need-overflow-add-x invariant-loop decreases-loop
-add-x c = omega arith
+overflow_add-x : tie.Need-overflow_add-x invariant-loop-t decreases-loop-t
+overflow_add-x c = omega arith
 
-mul-x : tie.Need-overflow-mul-x invariant-loop decreases-loop
-mul-x c = omega arith
+offset_bounds-slots-start : tie.Need-offset_bounds-slots-start invariant-loop-t decreases-loop-t
+offset_bounds-slots-start c = omega arith
 
-slice-read-x : tie.Need-slice-read-x invariant-loop decreases-loop
-slice-read-x c = omega arith
+bounds-slots-start : tie.Need-bounds-slots-start invariant-loop-t decreases-loop-t
+bounds-slots-start c = omega arith
 
-goes-first-requires : tie.Need-goes-first-requires invariant-loop decreases-loop
-goes-first-requires c κs = tt
+goes_first-requires : tie.Need-goes_first-requires invariant-loop-t decreases-loop-t
+goes_first-requires c κs = tt
 
-mul-slots : tie.Need-overflow-mul-slots invariant-loop decreases-loop
-mul-slots c = omega arith
+offset_bounds-slots-t : tie.Need-offset_bounds-slots-t invariant-loop-t decreases-loop-t
+offset_bounds-slots-t c = omega arith
 
-slice-write-slots : tie.Need-slice-write-slots invariant-loop decreases-loop
-slice-write-slots c = omega arith
+bounds-slots-t : tie.Need-bounds-slots-t invariant-loop-t decreases-loop-t
+bounds-slots-t c = omega arith
 
-mul-slots-2 : tie.Need-overflow-mul-slots-2 invariant-loop decreases-loop
-mul-slots-2 c = omega arith
+offset_bounds-slots-t-else-ahead : tie.Need-offset_bounds-slots-t-else-ahead invariant-loop-t decreases-loop-t
+offset_bounds-slots-t-else-ahead c = omega arith
 
-slice-write-slots-2 : tie.Need-slice-write-slots-2 invariant-loop decreases-loop
-slice-write-slots-2 c = omega arith
+bounds-slots-t-else-ahead : tie.Need-bounds-slots-t-else-ahead invariant-loop-t decreases-loop-t
+bounds-slots-t-else-ahead c = omega arith
 
-add-t : tie.Need-overflow-add-t invariant-loop decreases-loop
-add-t c = omega arith
+overflow_add-t : tie.Need-overflow_add-t invariant-loop-t decreases-loop-t
+overflow_add-t c = omega arith
 
-loop-less : tie.Need-loop-smaller invariant-loop decreases-loop
-loop-less c = omega arith
+loop-t-smaller : tie.Need-loop-t-smaller invariant-loop-t decreases-loop-t
+loop-t-smaller c = omega arith
 
-loop-again : tie.Need-loop-preserved invariant-loop decreases-loop
-loop-again c =
-    let s = c.before.before.before.before.before in
-    let turn = c.before.before.before.loop.invariant in
-    let more = c.before.before.loop-test.true in
-    ⊎_elim
-    (λ w. rw (w.3, w.4, w.5) (lays_read _ s.requires turn more w.0.taken (sym w.1.ensures ∙ w.2.taken)))
-    (λ w.
-    rw (w.1, w.2, w.3)
-    (⊎_elim
-    (λ v. lays_first _ s.requires turn more v.0.taken (sym v.1.ensures ∙ v.2.left))
-    (λ v. lays_held _ s.requires turn more v.left)
-    w.0.came))
-    c.if1.branch
+loop-t-preserved : tie.Need-loop-t-preserved invariant-loop-t decreases-loop-t
+loop-t-preserved c =
+    let turn = c.loop-t.invariant in
+    let more = c.loop-t-test.true in
+    elim c.if-ahead.branch [
+      | then-ahead+then-goes_first w ↦ rw (w.slots-is, w.held-is, w.ahead-is) (lays_read _ c.requires turn more w.if-ahead.true (sym w.goes_first.ensures ∙ w.if-goes_first.true))
+      | else-ahead w ↦ rw (w.slots-is, w.held-is, w.ahead-is)
+          (elim w.else-ahead.branch [
+            | else-ahead-via-then-ahead+else-goes_first v ↦ lays_first _ c.requires turn more v.if-ahead.true (sym v.goes_first.ensures ∙ v.if-goes_first.false)
+            | else-ahead-via-else-ahead v ↦ lays_held _ c.requires turn more v.if-ahead.false
+          ])
+    ]
 
-mul-slots-3 : tie.Need-overflow-mul-slots-3 invariant-loop decreases-loop
-mul-slots-3 c = omega arith
+offset_bounds-slots-count : tie.Need-offset_bounds-slots-count invariant-loop-t decreases-loop-t
+offset_bounds-slots-count c = omega arith
 
-slice-write-slots-3 : tie.Need-slice-write-slots-3 invariant-loop decreases-loop
-slice-write-slots-3 c = omega arith
+bounds-slots-count : tie.Need-bounds-slots-count invariant-loop-t decreases-loop-t
+bounds-slots-count c = omega arith
 
-same_length : tie.Need-same-length invariant-loop decreases-loop
-same_length c = simp length-set c.before.loop.invariant.sized
+shape_of-slots : tie.Need-shape_of-slots invariant-loop-t decreases-loop-t
+shape_of-slots c = simp length-set c.loop-t.invariant.sized
 
-returns : tie.Need-returns invariant-loop decreases-loop
-returns c = turn_last _ c.before.before.before.requires c.before.loop.invariant c.loop-test.false
+returns : tie.Need-returns invariant-loop-t decreases-loop-t
+returns c = turn_last _ c.requires c.loop-t.invariant c.loop-t-test.false
 
-pub place-in-spec : {M : Type 1} → statement M
-place-in-spec =
+pub place_in_spec : {M : Type 1} → statement M
+place_in_spec =
     tie.close
     (tie.spec
-    invariant-loop
-    decreases-loop
-    loop-holds
-    add-x
-    mul-x
-    slice-read-x
-    goes-first-requires
-    mul-slots
-    slice-write-slots
-    mul-slots-2
-    slice-write-slots-2
-    add-t
-    loop-less
-    loop-again
-    mul-slots-3
-    slice-write-slots-3
-    same_length
+    invariant-loop-t
+    decreases-loop-t
+    loop-t-init
+    overflow_add-x
+    offset_bounds-slots-start
+    bounds-slots-start
+    goes_first-requires
+    offset_bounds-slots-t
+    bounds-slots-t
+    offset_bounds-slots-t-else-ahead
+    bounds-slots-t-else-ahead
+    overflow_add-t
+    loop-t-smaller
+    loop-t-preserved
+    offset_bounds-slots-count
+    bounds-slots-count
+    shape_of-slots
     returns)

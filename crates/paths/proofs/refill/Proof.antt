@@ -9,185 +9,172 @@ use Rattle.paths.proofs.RefillLaws.{Refills, refills_first, refills_asks, refill
 use Rattle.paths.proofs.refill.Statement.{statement}
 use Rattle.paths.proofs.refill.Tie as tie
 
-abbrev invariant-loop : tie.invariant-loop
-invariant-loop rule a₀ path counts n xs ys x₀ y₀ t₀ a x y t = Refills (key_by rule) a₀ a path counts n xs ys x y t
+abbrev invariant-loop-t : tie.invariant-loop-t
+invariant-loop-t rule a₀ path counts n xs ys x₀ y₀ t₀ a x y t = Refills (key_by rule) a₀ a path counts n xs ys x y t
 
-abbrev decreases-loop : tie.decreases-loop
-decreases-loop rule a₀ path counts n xs ys x₀ y₀ t₀ a x y t = n - t
+abbrev decreases-loop-t : tie.decreases-loop-t
+decreases-loop-t rule a₀ path counts n xs ys x₀ y₀ t₀ a x y t = n - t
 
 -- one buffer more
-next : (c : tie.After-slice-known2 invariant-loop decreases-loop) → let l = c.before.before.before.before.before.before.before.before.before in let s = l.before.before.before.before in let o = c.before.before.refill-one in
-    Refills (key_by s.args.rule) s.args.a.now o.new.1.0 s.args.path.now s.args.counts.now s.args.n s.args.xs.now s.args.ys.now (l.loop.x + o.result) (l.loop.y + (get_or s.args.counts.now l.loop.t 0 - o.result)) (l.loop.t + 1)
+next : (c : tie.After-slice_known-in-loop-t-1 invariant-loop-t decreases-loop-t) → let o = c.refill_one-first in
+    Refills (key_by c.args.rule) c.args.a.now o.new.a c.args.path.now c.args.counts.now c.args.n c.args.xs.now c.args.ys.now (c.loop-t.x + o.result) (c.loop-t.y + (get_or c.args.counts.now c.loop-t.t 0 - o.result)) (c.loop-t.t + 1)
 next c =
-    let i = c.before.before.before.before.before.before.before.before in
-    let l = i.before in
-    let s = l.before.before.before.before in
-    let one = to_the_end s.args.xs.now l.loop.x in
-    let two = to_the_end s.args.ys.now l.loop.y in
-    refills_next s.requires l.loop.invariant i.loop-test.true _ _ (rw (one, two) at c.before.before.refill-one.ensures)
+    let one = to_the_end c.args.xs.now c.loop-t.x in
+    let two = to_the_end c.args.ys.now c.loop-t.y in
+    refills_next c.requires c.loop-t.invariant c.loop-t-test.true _ _ (rw (one, two) at c.refill_one-first.ensures)
 
 -- the last
-last : (c : tie.After-slice-known3 invariant-loop decreases-loop) → let s = c.before.before.before.before.before.before.before.before.before.before.before.before in
-    Refilled (key_by s.args.rule) s.args.a.now c.before.before.refill-last.new.1.0 s.args.path.now s.args.counts.now s.args.n s.args.xs.now s.args.ys.now
+last : (c : tie.After-slice_known-2-1 invariant-loop-t decreases-loop-t) → Refilled (key_by c.args.rule) c.args.a.now c.refill_last.new.a c.args.path.now c.args.counts.now c.args.n c.args.xs.now c.args.ys.now
 last c =
-    let i = c.before.before.before.before.before.before.before in
-    let l = i.before in
-    let s = l.before.before.before.before in
-    let one = to_the_end s.args.xs.now l.loop.x in
-    let two = to_the_end s.args.ys.now l.loop.y in
-    refills_last s.requires l.loop.invariant i.loop-test.false _ (rw (one, two) at c.before.before.refill-last.ensures)
+    let one = to_the_end c.args.xs.now c.loop-t.x in
+    let two = to_the_end c.args.ys.now c.loop-t.y in
+    refills_last c.requires c.loop-t.invariant c.loop-t-test.false _ (rw (one, two) at c.refill_last.ensures)
 
-loop-holds : tie.Need-loop-init invariant-loop decreases-loop
-loop-holds c = refills_first c.before.before.before.requires
+loop-t-init : tie.Need-loop-t-init invariant-loop-t decreases-loop-t
+loop-t-init c = refills_first c.requires
 
-add-loop : tie.Need-overflow-add-loop invariant-loop decreases-loop
-add-loop c = omega arith
+overflow_add-t : tie.Need-overflow_add-t invariant-loop-t decreases-loop-t
+overflow_add-t c = omega arith
 
-mul-m : tie.Need-overflow-mul-m invariant-loop decreases-loop
-mul-m c = omega arith
+offset_bounds-counts-t : tie.Need-offset_bounds-counts-t invariant-loop-t decreases-loop-t
+offset_bounds-counts-t c = omega arith
 
-element-copy-out-m : tie.Need-element-copy-out-m invariant-loop decreases-loop
-element-copy-out-m c = omega arith
+bounds-counts-t : tie.Need-bounds-counts-t invariant-loop-t decreases-loop-t
+bounds-counts-t c = omega arith
 
-mul-refill-one : tie.Need-overflow-mul-refill-one invariant-loop decreases-loop
-mul-refill-one c = omega arith
+offset_bounds-path-t : tie.Need-offset_bounds-path-t invariant-loop-t decreases-loop-t
+offset_bounds-path-t c = omega arith
 
-element-copy-out-refill-one : tie.Need-element-copy-out-refill-one invariant-loop decreases-loop
-element-copy-out-refill-one c = omega arith
+bounds-path-t : tie.Need-bounds-path-t invariant-loop-t decreases-loop-t
+bounds-path-t c = omega arith
 
-mul-refill-one-2 : tie.Need-overflow-mul-refill-one-2 invariant-loop decreases-loop
-mul-refill-one-2 c = omega arith
+offset_bounds-xs-x : tie.Need-offset_bounds-xs-x invariant-loop-t decreases-loop-t
+offset_bounds-xs-x c = omega arith
 
-sub-refill-one : tie.Need-overflow-sub-refill-one invariant-loop decreases-loop
-sub-refill-one c = omega arith
+slice_bounds-refill_one-count : tie.Need-slice_bounds-refill_one-count invariant-loop-t decreases-loop-t
+slice_bounds-refill_one-count c = omega arith
 
-part-refill-one-start : tie.Need-slice-bounds-refill-one-start invariant-loop decreases-loop
-part-refill-one-start c = omega arith
+slice_bounds-refill_one-start : tie.Need-slice_bounds-refill_one-start invariant-loop-t decreases-loop-t
+slice_bounds-refill_one-start c = omega arith
 
-part-refill-one-end : tie.Need-slice-bounds-refill-one-end invariant-loop decreases-loop
-part-refill-one-end c = omega arith
+slice_bounds-refill_one-end : tie.Need-slice_bounds-refill_one-end invariant-loop-t decreases-loop-t
+slice_bounds-refill_one-end c = omega arith
 
-mul-refill-one-3 : tie.Need-overflow-mul-refill-one-3 invariant-loop decreases-loop
-mul-refill-one-3 c = omega arith
+offset_bounds-ys-y : tie.Need-offset_bounds-ys-y invariant-loop-t decreases-loop-t
+offset_bounds-ys-y c = omega arith
 
-sub-refill-one-2 : tie.Need-overflow-sub-refill-one-2 invariant-loop decreases-loop
-sub-refill-one-2 c = omega arith
+slice_bounds-refill_one-count-in-loop-t : tie.Need-slice_bounds-refill_one-count-in-loop-t invariant-loop-t decreases-loop-t
+slice_bounds-refill_one-count-in-loop-t c = omega arith
 
-part-refill-one-start-2 : tie.Need-slice-bounds-refill-one-start-2 invariant-loop decreases-loop
-part-refill-one-start-2 c = omega arith
+slice_bounds-refill_one-start-in-loop-t : tie.Need-slice_bounds-refill_one-start-in-loop-t invariant-loop-t decreases-loop-t
+slice_bounds-refill_one-start-in-loop-t c = omega arith
 
-part-refill-one-end-2 : tie.Need-slice-bounds-refill-one-end-2 invariant-loop decreases-loop
-part-refill-one-end-2 c = omega arith
+slice_bounds-refill_one-end-in-loop-t : tie.Need-slice_bounds-refill_one-end-in-loop-t invariant-loop-t decreases-loop-t
+slice_bounds-refill_one-end-in-loop-t c = omega arith
 
-refill-one-requires : tie.Need-refill-one-requires invariant-loop decreases-loop
-refill-one-requires c κs =
-    let i = c.before.before.before.before.before in
-    let l = i.before in
-    let s = l.before.before.before.before in
-    let one = to_the_end s.args.xs.now l.loop.x in
-    let two = to_the_end s.args.ys.now l.loop.y in
-    rw (one, two) (refills_asks s.requires l.loop.invariant i.loop-test.true)
+refill_one-first-requires : tie.Need-refill_one-first-requires invariant-loop-t decreases-loop-t
+refill_one-first-requires c κs =
+    let one = to_the_end c.args.xs.now c.loop-t.x in
+    let two = to_the_end c.args.ys.now c.loop-t.y in
+    rw (one, two) (refills_asks c.requires c.loop-t.invariant c.loop-t-test.true)
 
-add-x : tie.Need-overflow-add-x invariant-loop decreases-loop
-add-x c = omega (arith, (next c).of_first)
+overflow_add-x : tie.Need-overflow_add-x invariant-loop-t decreases-loop-t
+overflow_add-x c = omega (arith, (next c).of_first)
 
-sub-y : tie.Need-overflow-sub-y invariant-loop decreases-loop
-sub-y c = c.before.before.refill-one.ensures.of_both
+overflow_sub-y : tie.Need-overflow_sub-y invariant-loop-t decreases-loop-t
+overflow_sub-y c = c.refill_one-first.ensures.of_both
 
-add-y : tie.Need-overflow-add-y invariant-loop decreases-loop
-add-y c = omega (arith, (next c).of_second)
+overflow_add-y : tie.Need-overflow_add-y invariant-loop-t decreases-loop-t
+overflow_add-y c = omega (arith, (next c).of_second)
 
-add-t : tie.Need-overflow-add-t invariant-loop decreases-loop
-add-t c = omega arith
+overflow_add-t-in-loop-t : tie.Need-overflow_add-t-in-loop-t invariant-loop-t decreases-loop-t
+overflow_add-t-in-loop-t c = omega arith
 
-loop-less : tie.Need-loop-smaller invariant-loop decreases-loop
-loop-less c = omega arith
+loop-t-smaller : tie.Need-loop-t-smaller invariant-loop-t decreases-loop-t
+loop-t-smaller c = omega arith
 
-loop-again : tie.Need-loop-preserved invariant-loop decreases-loop
-loop-again c = next c
+loop-t-preserved : tie.Need-loop-t-preserved invariant-loop-t decreases-loop-t
+loop-t-preserved c = next c
 
-mul-refill-last : tie.Need-overflow-mul-refill-last invariant-loop decreases-loop
-mul-refill-last c = omega arith
+offset_bounds-path-t-2 : tie.Need-offset_bounds-path-t-2 invariant-loop-t decreases-loop-t
+offset_bounds-path-t-2 c = omega arith
 
-element-copy-out-refill-last : tie.Need-element-copy-out-refill-last invariant-loop decreases-loop
-element-copy-out-refill-last c = omega arith
+bounds-path-t-2 : tie.Need-bounds-path-t-2 invariant-loop-t decreases-loop-t
+bounds-path-t-2 c = omega arith
 
-mul-refill-last-2 : tie.Need-overflow-mul-refill-last-2 invariant-loop decreases-loop
-mul-refill-last-2 c = omega arith
+offset_bounds-xs-x-2 : tie.Need-offset_bounds-xs-x-2 invariant-loop-t decreases-loop-t
+offset_bounds-xs-x-2 c = omega arith
 
-sub-refill-last : tie.Need-overflow-sub-refill-last invariant-loop decreases-loop
-sub-refill-last c = omega arith
+slice_bounds-refill_last-count : tie.Need-slice_bounds-refill_last-count invariant-loop-t decreases-loop-t
+slice_bounds-refill_last-count c = omega arith
 
-part-refill-last-start : tie.Need-slice-bounds-refill-last-start invariant-loop decreases-loop
-part-refill-last-start c = omega arith
+slice_bounds-refill_last-start : tie.Need-slice_bounds-refill_last-start invariant-loop-t decreases-loop-t
+slice_bounds-refill_last-start c = omega arith
 
-part-refill-last-end : tie.Need-slice-bounds-refill-last-end invariant-loop decreases-loop
-part-refill-last-end c = omega arith
+slice_bounds-refill_last-end : tie.Need-slice_bounds-refill_last-end invariant-loop-t decreases-loop-t
+slice_bounds-refill_last-end c = omega arith
 
-mul-refill-last-3 : tie.Need-overflow-mul-refill-last-3 invariant-loop decreases-loop
-mul-refill-last-3 c = omega arith
+offset_bounds-ys-y-2 : tie.Need-offset_bounds-ys-y-2 invariant-loop-t decreases-loop-t
+offset_bounds-ys-y-2 c = omega arith
 
-sub-refill-last-2 : tie.Need-overflow-sub-refill-last-2 invariant-loop decreases-loop
-sub-refill-last-2 c = omega arith
+slice_bounds-refill_last-count-2 : tie.Need-slice_bounds-refill_last-count-2 invariant-loop-t decreases-loop-t
+slice_bounds-refill_last-count-2 c = omega arith
 
-part-refill-last-start-2 : tie.Need-slice-bounds-refill-last-start-2 invariant-loop decreases-loop
-part-refill-last-start-2 c = omega arith
+slice_bounds-refill_last-start-2 : tie.Need-slice_bounds-refill_last-start-2 invariant-loop-t decreases-loop-t
+slice_bounds-refill_last-start-2 c = omega arith
 
-part-refill-last-end-2 : tie.Need-slice-bounds-refill-last-end-2 invariant-loop decreases-loop
-part-refill-last-end-2 c = omega arith
+slice_bounds-refill_last-end-2 : tie.Need-slice_bounds-refill_last-end-2 invariant-loop-t decreases-loop-t
+slice_bounds-refill_last-end-2 c = omega arith
 
-refill-last-requires : tie.Need-refill-last-requires invariant-loop decreases-loop
-refill-last-requires c κs =
-    let i = c.before.before.before.before in
-    let l = i.before in
-    let s = l.before.before.before.before in
-    let one = to_the_end s.args.xs.now l.loop.x in
-    let two = to_the_end s.args.ys.now l.loop.y in
-    rw (one, two) (refills_ask_last s.requires l.loop.invariant i.loop-test.false)
+refill_last-requires : tie.Need-refill_last-requires invariant-loop-t decreases-loop-t
+refill_last-requires c κs =
+    let one = to_the_end c.args.xs.now c.loop-t.x in
+    let two = to_the_end c.args.ys.now c.loop-t.y in
+    rw (one, two) (refills_ask_last c.requires c.loop-t.invariant c.loop-t-test.false)
 
-same_length : tie.Need-same-length invariant-loop decreases-loop
-same_length c = (last c).kept.long
+shape_of-a : tie.Need-shape_of-a invariant-loop-t decreases-loop-t
+shape_of-a c = (last c).kept.long
 
-returns : tie.Need-returns invariant-loop decreases-loop
+returns : tie.Need-returns invariant-loop-t decreases-loop-t
 returns c = last c
 
-pub refill-spec : {M : Type 1} → statement M
-refill-spec =
+pub refill_spec : {M : Type 1} → statement M
+refill_spec =
     tie.close
     (tie.spec
-    invariant-loop
-    decreases-loop
-    loop-holds
-    add-loop
-    mul-m
-    element-copy-out-m
-    mul-refill-one
-    element-copy-out-refill-one
-    mul-refill-one-2
-    sub-refill-one
-    part-refill-one-start
-    part-refill-one-end
-    mul-refill-one-3
-    sub-refill-one-2
-    part-refill-one-start-2
-    part-refill-one-end-2
-    refill-one-requires
-    add-x
-    sub-y
-    add-y
-    add-t
-    loop-less
-    loop-again
-    mul-refill-last
-    element-copy-out-refill-last
-    mul-refill-last-2
-    sub-refill-last
-    part-refill-last-start
-    part-refill-last-end
-    mul-refill-last-3
-    sub-refill-last-2
-    part-refill-last-start-2
-    part-refill-last-end-2
-    refill-last-requires
-    same_length
+    invariant-loop-t
+    decreases-loop-t
+    loop-t-init
+    overflow_add-t
+    offset_bounds-counts-t
+    bounds-counts-t
+    offset_bounds-path-t
+    bounds-path-t
+    offset_bounds-xs-x
+    slice_bounds-refill_one-count
+    slice_bounds-refill_one-start
+    slice_bounds-refill_one-end
+    offset_bounds-ys-y
+    slice_bounds-refill_one-count-in-loop-t
+    slice_bounds-refill_one-start-in-loop-t
+    slice_bounds-refill_one-end-in-loop-t
+    refill_one-first-requires
+    overflow_add-x
+    overflow_sub-y
+    overflow_add-y
+    overflow_add-t-in-loop-t
+    loop-t-smaller
+    loop-t-preserved
+    offset_bounds-path-t-2
+    bounds-path-t-2
+    offset_bounds-xs-x-2
+    slice_bounds-refill_last-count
+    slice_bounds-refill_last-start
+    slice_bounds-refill_last-end
+    offset_bounds-ys-y-2
+    slice_bounds-refill_last-count-2
+    slice_bounds-refill_last-start-2
+    slice_bounds-refill_last-end-2
+    refill_last-requires
+    shape_of-a
     returns)

@@ -4,59 +4,51 @@ use borrow.Author.Rules.{rules}
 use Rattle.paths.proofs.refill_last.Statement.{statement}
 use Rattle.paths.proofs.refill_last.Tie as tie
 
-base-of-requires : tie.Need-base-of-requires
-base-of-requires c κs = search rules
+base_of-at-requires : tie.Need-base_of-at-requires
+base_of-at-requires c κs = search rules
 
-add-all : tie.Need-overflow-add-all
-add-all c = search rules
+overflow_add-all : tie.Need-overflow_add-all
+overflow_add-all c = search rules
 
-add-end : tie.Need-overflow-add-end
-add-end c = search rules
+overflow_add-end : tie.Need-overflow_add-end
+overflow_add-end c = search rules
 
-mul-join-into : tie.Need-overflow-mul-join-into
-mul-join-into c = search rules
+offset_bounds-a-at : tie.Need-offset_bounds-a-at
+offset_bounds-a-at c = search rules
 
-sub-join-into : tie.Need-overflow-sub-join-into
-sub-join-into c = search rules
+slice_bounds-join_into-count : tie.Need-slice_bounds-join_into-count
+slice_bounds-join_into-count c = search rules
 
-part-join-into-start : tie.Need-slice-bounds-join-into-start
-part-join-into-start c = search rules
+slice_bounds-join_into-start : tie.Need-slice_bounds-join_into-start
+slice_bounds-join_into-start c = search rules
 
-part-join-into-end : tie.Need-slice-bounds-join-into-end
-part-join-into-end c = search rules
+slice_bounds-join_into-end : tie.Need-slice_bounds-join_into-end
+slice_bounds-join_into-end c = search rules
 
-join-into-requires : tie.Need-join-into-requires
-join-into-requires c κs = search rules
+join_into-requires : tie.Need-join_into-requires
+join_into-requires c κs = search rules
 
 settle-requires : tie.Need-settle-requires
-settle-requires c κs =
-    let p = c.before.before.before in
-    let b = p.before.before in
-    let s = b.before.before.before.before in
-    last_laying _ s.args.a.now s.args.n s.args.xs.now s.args.ys.now s.requires _ b.base-of.ensures _ p.join-into.ensures
+settle-requires c κs = last_laying _ c.args.a.now c.args.n c.args.xs.now c.args.ys.now c.requires _ c.base_of-at.ensures _ c.join_into.ensures
 
-same_length : tie.Need-same-length
-same_length c = search rules
+shape_of-a : tie.Need-shape_of-a
+shape_of-a c = search rules
 
 returns : tie.Need-returns
-returns c =
-    let p = c.before.before.before.before.before.before in
-    let b = p.before.before in
-    let s = b.before.before.before.before in
-    last_did _ s.args.a.now s.args.n s.args.xs.now s.args.ys.now s.requires _ b.base-of.ensures _ p.join-into.ensures _ c.before.before.settle.ensures.0 c.before.before.settle.ensures.1
+returns c = last_did _ c.args.a.now c.args.n c.args.xs.now c.args.ys.now c.requires _ c.base_of-at.ensures _ c.join_into.ensures _ c.settle.ensures.0 c.settle.ensures.1
 
-pub refill-last-spec : {M : Type 1} → statement M
-refill-last-spec =
+pub refill_last_spec : {M : Type 1} → statement M
+refill_last_spec =
     tie.close
     (tie.spec
-    base-of-requires
-    add-all
-    add-end
-    mul-join-into
-    sub-join-into
-    part-join-into-start
-    part-join-into-end
-    join-into-requires
+    base_of-at-requires
+    overflow_add-all
+    overflow_add-end
+    offset_bounds-a-at
+    slice_bounds-join_into-count
+    slice_bounds-join_into-start
+    slice_bounds-join_into-end
+    join_into-requires
     settle-requires
-    same_length
+    shape_of-a
     returns)

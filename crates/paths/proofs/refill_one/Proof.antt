@@ -4,55 +4,47 @@ use borrow.Author.Rules.{rules}
 use Rattle.paths.proofs.refill_one.Statement.{statement}
 use Rattle.paths.proofs.refill_one.Tie as tie
 
-base-of-requires : tie.Need-base-of-requires
-base-of-requires c κs = search rules
+base_of-at-requires : tie.Need-base_of-at-requires
+base_of-at-requires c κs = search rules
 
-add-end : tie.Need-overflow-add-end
-add-end c = search rules
+overflow_add-end : tie.Need-overflow_add-end
+overflow_add-end c = search rules
 
-mul-part : tie.Need-overflow-mul-part
-mul-part c = search rules
+offset_bounds-a-at : tie.Need-offset_bounds-a-at
+offset_bounds-a-at c = search rules
 
-sub_part : tie.Need-overflow-sub-part
-sub_part c = search rules
+slice_bounds-part-count : tie.Need-slice_bounds-part-count
+slice_bounds-part-count c = search rules
 
-part-part-start : tie.Need-slice-bounds-part-start
-part-part-start c = search rules
+slice_bounds-part-start : tie.Need-slice_bounds-part-start
+slice_bounds-part-start c = search rules
 
-part-part-end : tie.Need-slice-bounds-part-end
-part-part-end c = search rules
+slice_bounds-part-end : tie.Need-slice_bounds-part-end
+slice_bounds-part-end c = search rules
 
-part-requires : tie.Need-part-requires
-part-requires c κs = search rules
+part-first-requires : tie.Need-part-first-requires
+part-first-requires c κs = search rules
 
 settle-requires : tie.Need-settle-requires
-settle-requires c κs =
-    let p = c.before.before.before in
-    let b = p.before.before in
-    let s = b.before.before.before.before in
-    fill_laying s.args.a.now s.args.n s.args.m s.args.xs.now s.args.ys.now s.requires _ b.base-of.ensures _ _ p.part.ensures
+settle-requires c κs = fill_laying c.args.a.now c.args.n c.args.m c.args.xs.now c.args.ys.now c.requires _ c.base_of-at.ensures _ _ c.part-first.ensures
 
-same_length : tie.Need-same-length
-same_length c = search rules
+shape_of-a : tie.Need-shape_of-a
+shape_of-a c = search rules
 
 returns : tie.Need-returns
-returns c =
-    let p = c.before.before.before.before.before.before in
-    let b = p.before.before in
-    let s = b.before.before.before.before in
-    fill_did s.args.a.now s.args.n s.args.m s.args.xs.now s.args.ys.now s.requires _ b.base-of.ensures _ _ p.part.ensures _ c.before.before.settle.ensures.0 c.before.before.settle.ensures.1
+returns c = fill_did c.args.a.now c.args.n c.args.m c.args.xs.now c.args.ys.now c.requires _ c.base_of-at.ensures _ _ c.part-first.ensures _ c.settle.ensures.0 c.settle.ensures.1
 
-pub refill-one-spec : {M : Type 1} → statement M
-refill-one-spec =
+pub refill_one_spec : {M : Type 1} → statement M
+refill_one_spec =
     tie.close
     (tie.spec
-    base-of-requires
-    add-end
-    mul-part
-    sub_part
-    part-part-start
-    part-part-end
-    part-requires
+    base_of-at-requires
+    overflow_add-end
+    offset_bounds-a-at
+    slice_bounds-part-count
+    slice_bounds-part-start
+    slice_bounds-part-end
+    part-first-requires
     settle-requires
-    same_length
+    shape_of-a
     returns)
