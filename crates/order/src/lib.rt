@@ -1,4 +1,6 @@
 // The order rule: the look that an audit takes at the entries themselves.
+#![tactic(auto)]
+
 ghost use Rattle.std.specs.Prelude.{◌≡◌};
 ghost use Rattle.rules.specs.Entries.{key_by};
 ghost use Rattle.rules.specs.Tree.{tree_of};

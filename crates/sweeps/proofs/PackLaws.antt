@@ -12,7 +12,7 @@ use lib.ListN.{length, get_or, take, drop, replicate, length-append, length-repl
 use lib.Seq.{ext_get_or, get_or_at, take-append_seam, length-take-le}
 use Rattle.rules.specs.declared.Rule.{Rule}
 use Rattle.rules.specs.Entries.{key_by}
-use Rattle.rules.specs.Links.{from, s, buffer_count, most, words, LinkNumber}
+use Rattle.rules.specs.Links.{from, s, buffer_count, most, LinkNumber}
 use Rattle.rules.specs.Tree.{links_from, tree_of}
 use Rattle.rules.specs.Take.{take_all}
 use Rattle.rules.specs.Queue.{key_of, held_from}

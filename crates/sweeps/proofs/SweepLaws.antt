@@ -9,7 +9,7 @@ use lib.ListN.{length, get_or, take, drop}
 use lib.Seq.{ext_get_or, take_at, length-take-le}
 use Rattle.rules.specs.declared.Rule.{Rule}
 use Rattle.rules.specs.Entries.{key_by}
-use Rattle.rules.specs.Links.{s, first, sum, most, from, buffer_count, path_room, book_words, words, LinkNumber}
+use Rattle.rules.specs.Links.{s, first, sum, most, from, buffer_count, path_room, book_words, LinkNumber}
 use Rattle.rules.specs.Tree.{Buffers, k_merger, links_from, tree_of}
 use Rattle.rules.specs.Take.{Taken, insertion, take_all}
 use Rattle.rules.specs.Queue.{Queue, key_of, counter, held_from}

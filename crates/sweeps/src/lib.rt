@@ -1,4 +1,6 @@
 // Room in I: a sweep to the lowest link that has a free S, or a packing.
+#![tactic(auto)]
+
 ghost use Rattle.std.specs.Prelude.{◌≡◌, take};
 ghost use Rattle.rules.specs.Entries.{key_by};
 ghost use Rattle.rules.specs.Calls.{queue_of};
@@ -76,7 +78,7 @@ fn pack(rule: Rule, a: &mut [u64], links: usize, work: &mut [u64]) -> u64
 }
 
 // What making room in I cost: the merge steps, and whether it packed.
-#[derive(Drop)]
+#[derive(Clone, Copy)]
 pub struct Room {
     pub steps: u64,
     pub packed: bool,

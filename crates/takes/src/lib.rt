@@ -1,4 +1,6 @@
 // Takes over I and the first links of a lent array: one take, its head alone, all of them.
+#![tactic(auto)]
+
 ghost use Rattle.std.specs.Prelude.{◌≡◌, ◌+◌, ◌≤◌, get_or, drop};
 ghost use Rattle.rules.specs.Entries.{key_by};
 ghost use Rattle.rules.specs.Tree.{links_from, entries};
@@ -20,7 +22,7 @@ use rules::{Link, Rule};
 const NO_STEP: u64 = 0;
 
 // Where the smaller head stands.
-#[derive(Drop)]
+#[derive(Clone, Copy)]
 pub enum Source {
     Neither,
     First,
@@ -82,7 +84,7 @@ fn hand_out(a: &mut [u64], n: usize, at: usize) -> u64
 }
 
 // What a take hands out, if there is anything, and the merge steps made.
-#[derive(Drop)]
+#[derive(Clone, Copy)]
 pub struct Taken {
     pub found: bool,
     pub entry: u64,
@@ -148,7 +150,7 @@ fn held_now(a: &[u64], links: usize) -> u64
 }
 
 // What emptying brought: how many entries, and the merge steps made.
-#[derive(Drop)]
+#[derive(Clone, Copy)]
 pub struct Emptied {
     pub count: usize,
     pub steps: u64,

@@ -5,43 +5,43 @@ use borrow.Author.Rules.{rules}
 use Rattle.order.proofs.last_entry.Statement.{statement}
 use Rattle.order.proofs.last_entry.Tie as tie
 
-count-requires : tie.Need-count-requires
-count-requires c κs = search rules
+count-count-requires : tie.Need-count-count-requires
+count-count-requires c κs = search rules
+
+returns-then-count-eq0 : tie.Need-returns-then-count-eq0
+returns-then-count-eq0 c = empty_hands_on _ _ _ c.requires _ _ c.count-count.ensures (omega arith)
+
+start_place-requires : tie.Need-start_place-requires
+start_place-requires c κs = search rules
+
+overflow_add-head : tie.Need-overflow_add-head
+overflow_add-head c = search rules
+
+overflow_add-result : tie.Need-overflow_add-result
+overflow_add-result c = omega (arith, stretch_inside _ _ _ c.requires c.start_place.ensures c.count-count.ensures)
+
+overflow_sub-result : tie.Need-overflow_sub-result
+overflow_sub-result c = search rules
+
+offset_bounds-a-head : tie.Need-offset_bounds-a-head
+offset_bounds-a-head c = omega (arith, stretch_inside _ _ _ c.requires c.start_place.ensures c.count-count.ensures)
+
+bounds-a-head : tie.Need-bounds-a-head
+bounds-a-head c = omega (arith, stretch_inside _ _ _ c.requires c.start_place.ensures c.count-count.ensures)
 
 returns : tie.Need-returns
-returns c = empty_hands_on _ _ _ c.before.before.before.requires _ _ c.before.count.ensures (omega arith)
+returns c = last_here _ _ _ c.requires c.start_place.ensures c.count-count.ensures _ (omega arith)
 
-start-place-requires : tie.Need-start-place-requires
-start-place-requires c κs = search rules
-
-add-head : tie.Need-overflow-add-head
-add-head c = search rules
-
-add-result : tie.Need-overflow-add-result
-add-result c = omega (arith, stretch_inside _ _ _ c.before.before.before.before.before.requires c.before.start-place.ensures c.before.before.before.count.ensures)
-
-sub-result : tie.Need-overflow-sub-result
-sub-result c = search rules
-
-mul-result : tie.Need-overflow-mul-result
-mul-result c = omega (arith, stretch_inside _ _ _ c.before.before.before.before.before.requires c.before.start-place.ensures c.before.before.before.count.ensures)
-
-shared-slice-read-result : tie.Need-shared-slice-read-result
-shared-slice-read-result c = omega (arith, stretch_inside _ _ _ c.before.before.before.before.before.before.requires c.before.before.start-place.ensures c.before.before.before.before.count.ensures)
-
-returns-2 : tie.Need-returns-2
-returns-2 c = last_here _ _ _ c.before.before.before.before.before.before.requires c.before.before.start-place.ensures c.before.before.before.before.count.ensures _ (omega arith)
-
-pub last-entry-spec : {M : Type 1} → statement M
-last-entry-spec =
+pub last_entry_spec : {M : Type 1} → statement M
+last_entry_spec =
     tie.close
     (tie.spec
-    count-requires
-    returns
-    start-place-requires
-    add-head
-    add-result
-    sub-result
-    mul-result
-    shared-slice-read-result
-    returns-2)
+    count-count-requires
+    returns-then-count-eq0
+    start_place-requires
+    overflow_add-head
+    overflow_add-result
+    overflow_sub-result
+    offset_bounds-a-head
+    bounds-a-head
+    returns)

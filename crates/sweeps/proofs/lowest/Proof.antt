@@ -6,59 +6,59 @@ use Rattle.sweeps.proofs.LowestLaws.{Searching, search_first, search_found, sear
 use Rattle.sweeps.proofs.lowest.Statement.{statement}
 use Rattle.sweeps.proofs.lowest.Tie as tie
 
-abbrev invariant-loop : tie.invariant-loop
-invariant-loop a links i₀ i = Searching a links i
+abbrev invariant-loop-i : tie.invariant-loop-i
+invariant-loop-i a links i₀ i = Searching a links i
 
-abbrev decreases-loop : tie.decreases-loop
-decreases-loop a links i₀ i = suc links - i
+abbrev decreases-loop-i : tie.decreases-loop-i
+decreases-loop-i a links i₀ i = suc links - i
 
-loop-holds : tie.Need-loop-init invariant-loop decreases-loop
-loop-holds c = search_first _ _
+loop-i-init : tie.Need-loop-i-init invariant-loop-i decreases-loop-i
+loop-i-init c = search_first _ _
 
-counter-requires : tie.Need-counter-requires invariant-loop decreases-loop
-counter-requires c κs = has_counter _ _ c.before.before.before.requires.0 c.before.loop.invariant.low (omega (arith, c.before.before.before.requires.1, c.loop-test.true))
+counter-requires : tie.Need-counter-requires invariant-loop-i decreases-loop-i
+counter-requires c κs = has_counter _ _ c.requires.0 c.loop-i.invariant.low (omega (arith, c.requires.1, c.loop-i-test.true))
 
-at-requires : tie.Need-at-requires invariant-loop decreases-loop
+at-requires : tie.Need-at-requires invariant-loop-i decreases-loop-i
 at-requires c κs = tt
 
-k-requires : tie.Need-k-requires invariant-loop decreases-loop
+k-requires : tie.Need-k-requires invariant-loop-i decreases-loop-i
 k-requires c κs =
     record {
-      low = omega (arith, c.at.ensures, c.before.before.before.loop.invariant.low);
-      high = omega (arith, c.at.ensures, c.before.before.loop-test.true, c.before.before.before.before.before.requires.1, c.before.before.before.before.before.requires.0.link.high);
+      low = omega (arith, c.at.ensures, c.loop-i.invariant.low);
+      high = omega (arith, c.at.ensures, c.loop-i-test.true, c.requires.1, c.requires.0.link.high);
     }
 
-returns : tie.Need-returns invariant-loop decreases-loop
-returns c =
-    search_found _ _ _ c.before.before.before.before.before.loop.invariant (omega (arith, c.before.before.before.before.loop-test.true)) _ _ _
-    c.before.before.before.counter.ensures c.before.before.at.ensures c.before.k.ensures c.before.before.before.before.before.before.before.requires.1 c.if1.true
+returns-then-counter-k : tie.Need-returns-then-counter-k invariant-loop-i decreases-loop-i
+returns-then-counter-k c =
+    search_found _ _ _ c.loop-i.invariant (omega (arith, c.loop-i-test.true)) _ _ _
+    c.counter.ensures c.at.ensures c.k.ensures c.requires.1 c.if-counter-k.true
 
-add-i : tie.Need-overflow-add-i invariant-loop decreases-loop
-add-i c = omega (arith, c.before.before.before.before.loop-test.true, c.before.before.before.before.before.before.before.requires.1, c.before.before.before.before.before.before.before.requires.0.link.high)
+overflow_add-i : tie.Need-overflow_add-i invariant-loop-i decreases-loop-i
+overflow_add-i c = omega (arith, c.loop-i-test.true, c.requires.1, c.requires.0.link.high)
 
-loop-less : tie.Need-loop-smaller invariant-loop decreases-loop
-loop-less c = omega (arith, c.before.before.before.before.loop-test.true)
+loop-i-smaller : tie.Need-loop-i-smaller invariant-loop-i decreases-loop-i
+loop-i-smaller c = omega (arith, c.loop-i-test.true)
 
-loop-again : tie.Need-loop-preserved invariant-loop decreases-loop
-loop-again c =
-    search_next _ _ _ c.before.before.before.before.before.loop.invariant (omega (arith, c.before.before.before.before.loop-test.true)) _ _ _
-    c.before.before.before.counter.ensures c.before.before.at.ensures c.before.k.ensures (omega (arith, c.if1.false))
+loop-i-preserved : tie.Need-loop-i-preserved invariant-loop-i decreases-loop-i
+loop-i-preserved c =
+    search_next _ _ _ c.loop-i.invariant (omega (arith, c.loop-i-test.true)) _ _ _
+    c.counter.ensures c.at.ensures c.k.ensures (omega (arith, c.if-counter-k.false))
 
-returns-2 : tie.Need-returns-2 invariant-loop decreases-loop
-returns-2 c = search_none _ _ _ c.before.loop.invariant c.before.before.before.requires.1 (omega (arith, c.loop-test.false))
+returns : tie.Need-returns invariant-loop-i decreases-loop-i
+returns c = search_none _ _ _ c.loop-i.invariant c.requires.1 (omega (arith, c.loop-i-test.false))
 
-pub lowest-spec : {M : Type 1} → statement M
-lowest-spec =
+pub lowest_spec : {M : Type 1} → statement M
+lowest_spec =
     tie.close
     (tie.spec
-    invariant-loop
-    decreases-loop
-    loop-holds
+    invariant-loop-i
+    decreases-loop-i
+    loop-i-init
     counter-requires
     at-requires
     k-requires
-    returns
-    add-i
-    loop-less
-    loop-again
-    returns-2)
+    returns-then-counter-k
+    overflow_add-i
+    loop-i-smaller
+    loop-i-preserved
+    returns)

@@ -6,81 +6,81 @@ use Rattle.sweeps.proofs.make_room.Statement.{statement}
 use Rattle.sweeps.proofs.make_room.Tie as tie
 
 -- back to where I is full, and to the start
-abbrev full : tie.After-lowest → tie.Else1
-full c = c.before.before.before.before
+abbrev full : tie.After-lowest-i → tie.Else-count-lt-INSERTION
+full c = c.before.before
 
 abbrev start : tie.After-count → tie.Start
-start c = c.before.before.before.before
+start c = c.before.before.before
 
 count-requires : tie.Need-count-requires
-count-requires c κs = counts_I _ _ c.before.before.before.requires
+count-requires c κs = counts_I _ _ c.requires
 
-same_length : tie.Need-same-length
-same_length c = search rules
+shape_of-a-then-count-lt-INSERTION : tie.Need-shape_of-a-then-count-lt-INSERTION
+shape_of-a-then-count-lt-INSERTION c = search rules
 
-returns : tie.Need-returns
-returns c =
+returns-then-count-lt-INSERTION : tie.Need-returns-then-count-lt-INSERTION
+returns-then-count-lt-INSERTION c =
     let co = c.before in
-    (room_there _ _ (start co).requires _ co.count.ensures c.if1.true, packed_not _ _ (start co).requires _ co.count.ensures c.if1.true)
+    (room_there _ _ (start co).requires _ co.count.ensures c.if-count-lt-INSERTION.true, packed_not _ _ (start co).requires _ co.count.ensures c.if-count-lt-INSERTION.true)
 
-links-requires : tie.Need-links-requires
-links-requires c κs = some_words _ _ (start c.before.before).requires
+links-links-requires : tie.Need-links-links-requires
+links-links-requires c κs = some_words _ _ (start c.before).requires
 
-lowest-requires : tie.Need-lowest-requires
-lowest-requires c κs = search rules
+lowest-i-requires : tie.Need-lowest-i-requires
+lowest-i-requires c κs = search rules
 
-pack-requires : tie.Need-pack-requires
-pack-requires c κs = search rules
+pack-steps-requires : tie.Need-pack-steps-requires
+pack-steps-requires c κs = search rules
 
-same-length-2 : tie.Need-same-length-2
-same-length-2 c = search rules
+shape_of-a-then-links-i : tie.Need-shape_of-a-then-links-i
+shape_of-a-then-links-i c = search rules
 
-same-length-3 : tie.Need-same-length-3
-same-length-3 c = search rules
+shape_of-work-then-links-i : tie.Need-shape_of-work-then-links-i
+shape_of-work-then-links-i c = search rules
 
-returns-2 : tie.Need-returns-2
-returns-2 c =
+returns-then-links-i : tie.Need-returns-then-links-i
+returns-then-links-i c =
     let pk = c.before.before.before.before in
     let th = pk.before.before.before in
     let lo = th.before in
     let el = full lo in
-    packed_room _ _ (start el.before).requires _ el.before.count.ensures (omega (arith, el.if1.left)) _ lo.before.before.links.ensures _ lo.lowest.ensures th.if2.true _ _ _ pk.pack.ensures
+    packed_room _ _ (start el.before).requires _ el.count.ensures (omega (arith, el.if-count-lt-INSERTION.false)) _ lo.links-links.ensures _ lo.lowest-i.ensures th.if-links-i.true _ _ _ pk.pack-steps.ensures
 
-sweep-requires : tie.Need-sweep-requires
-sweep-requires c κs =
+sweep-steps-requires : tie.Need-sweep-steps-requires
+sweep-steps-requires c κs =
     let th = c.before.before in
     let lo = th.before in
     let el = full lo in
-    can_sweep _ _ (start el.before).requires _ el.before.count.ensures (omega (arith, el.if1.left)) _ lo.before.before.links.ensures _ lo.lowest.ensures (omega (arith, th.if2.false))
+    can_sweep _ _ (start el.before).requires _ el.count.ensures (omega (arith, el.if-count-lt-INSERTION.false)) _ lo.links-links.ensures _ lo.lowest-i.ensures (omega (arith, th.if-links-i.false))
 
-same-length-4 : tie.Need-same-length-4
-same-length-4 c = search rules
+shape_of-a : tie.Need-shape_of-a
+shape_of-a c = search rules
 
-same-length-5 : tie.Need-same-length-5
-same-length-5 c = search rules
+shape_of-work : tie.Need-shape_of-work
+shape_of-work c = search rules
 
-returns-3 : tie.Need-returns-3
-returns-3 c =
+returns : tie.Need-returns
+returns c =
     let sw = c.before.before.before.before in
     let th = sw.before.before.before in
     let lo = th.before in
     let el = full lo in
-    swept_room _ _ (start el.before).requires _ el.before.count.ensures (omega (arith, el.if1.left)) _ lo.before.before.links.ensures _ lo.lowest.ensures (omega (arith, th.if2.false)) _ _ _ sw.sweep.ensures
+    swept_room _ _ (start el.before).requires _ el.count.ensures (omega (arith, el.if-count-lt-INSERTION.false)) _ lo.links-links.ensures _ lo.lowest-i.ensures (omega (arith, th.if-links-i.false)) _ _ _ sw.sweep-steps.ensures
 
-pub make-room-spec : {M : Type 1} → statement M
-make-room-spec =
+pub make_room_spec : {M : Type 1} → statement M
+make_room_spec =
     tie.close
     (tie.spec
     count-requires
-    same_length
-    returns
-    links-requires
-    lowest-requires
-    pack-requires
-    same-length-2
-    same-length-3
-    returns-2
-    sweep-requires
-    same-length-4
-    same-length-5
-    returns-3)
+    shape_of-a-then-count-lt-INSERTION
+    returns-then-count-lt-INSERTION
+    links-links-requires
+    lowest-i-requires
+    pack-steps-requires
+    shape_of-a-then-links-i
+    shape_of-work-then-links-i
+    returns-then-links-i
+    sweep-steps-requires
+    shape_of-a
+    shape_of-work
+    returns)

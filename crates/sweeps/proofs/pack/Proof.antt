@@ -5,70 +5,70 @@ use Rattle.sweeps.proofs.PackLaws.{pack_empties, pack_inside, pack_counted, pack
 use Rattle.sweeps.proofs.pack.Statement.{statement}
 use Rattle.sweeps.proofs.pack.Tie as tie
 
-take-all-requires : tie.Need-take-all-requires
-take-all-requires c κs = pack_empties c.before.before.before.before.requires
+take_all-emptied-requires : tie.Need-take_all-emptied-requires
+take_all-emptied-requires c κs = pack_empties c.requires
 
-slice-reshare-prefix-lay-out : tie.Need-slice-reshare-prefix-lay-out
-slice-reshare-prefix-lay-out c = pack_inside c.before.before.before.before.before.before.before.before.before.before.requires c.before.before.before.before.before.take_all.ensures
+slice_bounds-lay_out-end : tie.Need-slice_bounds-lay_out-end
+slice_bounds-lay_out-end c = pack_inside c.requires c.take_all-emptied.ensures
 
-slice-aggregate-lay-out : tie.Need-slice-aggregate-lay-out
-slice-aggregate-lay-out c = pack_counted c.before.before.before.before.before.before.before.before.before.before.before.requires c.before.before.before.before.before.before.take_all.ensures
+slice_bounds-lay_out-end-2 : tie.Need-slice_bounds-lay_out-end-2
+slice_bounds-lay_out-end-2 c = pack_counted c.requires c.take_all-emptied.ensures
 
-lay-out-requires : tie.Need-lay-out-requires
-lay-out-requires c κs = pack_lays c.before.before.before.before.before.before.before.before.before.before.before.requires c.before.before.before.before.before.before.take_all.ensures
+lay_out-requires : tie.Need-lay_out-requires
+lay_out-requires c κs = pack_lays c.requires c.take_all-emptied.ensures
 
 at-requires : tie.Need-at-requires
 at-requires c κs = search rules
 
-s-requires : tie.Need-s-requires
-s-requires c κs = search rules
+s-size-requires : tie.Need-s-size-requires
+s-size-requires c κs = search rules
 
-sub_used : tie.Need-overflow-sub-used
-sub_used c = pack_size c.before.before.before.before.before.before.before.before.before.before.before.before.before.before.before.before.requires c.before.before.before.before.before.before.before.before.before.before.before.take_all.ensures c.before.at.ensures c.s.ensures
+overflow_sub-used : tie.Need-overflow_sub-used
+overflow_sub-used c = pack_size c.requires c.take_all-emptied.ensures c.at.ensures c.s-size.ensures
 
-add-used : tie.Need-overflow-add-used
-add-used c = omega (arith, pack_sum c.before.before.before.before.before.before.before.before.before.before.before.before.before.before.before.before.requires c.before.before.before.before.before.before.before.before.before.before.before.take_all.ensures c.before.at.ensures c.s.ensures)
+overflow_add-used : tie.Need-overflow_add-used
+overflow_add-used c = omega (arith, pack_sum c.requires c.take_all-emptied.ensures c.at.ensures c.s-size.ensures)
 
-div-used : tie.Need-nonzero-div-used
-div-used c = pack_size c.before.before.before.before.before.before.before.before.before.before.before.before.before.before.before.before.requires c.before.before.before.before.before.before.before.before.before.before.before.take_all.ensures c.before.at.ensures c.s.ensures
+nonzero_div-used : tie.Need-nonzero_div-used
+nonzero_div-used c = pack_size c.requires c.take_all-emptied.ensures c.at.ensures c.s-size.ensures
 
-add-put-counter : tie.Need-overflow-add-put-counter
-add-put-counter c = omega (arith, pack_used c.before.before.before.before.before.before.before.before.before.before.before.before.before.before.before.before.before.requires c.before.before.before.before.before.before.before.before.before.before.before.before.take_all.ensures c.before.before.at.ensures c.before.s.ensures)
+overflow_add-used-2 : tie.Need-overflow_add-used-2
+overflow_add-used-2 c = omega (arith, pack_used c.requires c.take_all-emptied.ensures c.at.ensures c.s-size.ensures)
 
-put-counter-requires : tie.Need-put-counter-requires
-put-counter-requires c κs = pack_counter c.before.before.before.before.before.before.before.before.before.before.before.before.before.before.before.before.before.requires c.before.before.before.before.before.before.before.before.before.before.before.before.take_all.ensures c.before.before.before.before.before.lay-out.ensures
+put_counter-requires : tie.Need-put_counter-requires
+put_counter-requires c κs = pack_counter c.requires c.take_all-emptied.ensures c.lay_out.ensures
 
-same_length : tie.Need-same-length
-same_length c = search rules
+shape_of-a : tie.Need-shape_of-a
+shape_of-a c = search rules
 
-same-length-2 : tie.Need-same-length-2
-same-length-2 c = search rules
+shape_of-work : tie.Need-shape_of-work
+shape_of-work c = search rules
 
 returns : tie.Need-returns
 returns c =
     pack_made
-    c.before.before.before.before.before.before.before.before.before.before.before.before.before.before.before.before.before.before.before.before.requires
-    c.before.before.before.before.before.before.before.before.before.before.before.before.before.before.before.take_all.ensures
-    c.before.before.before.before.before.before.before.before.lay-out.ensures
-    c.before.before.before.before.before.at.ensures
-    c.before.before.before.before.s.ensures
-    c.before.before.put-counter.ensures
+    c.requires
+    c.take_all-emptied.ensures
+    c.lay_out.ensures
+    c.at.ensures
+    c.s-size.ensures
+    c.put_counter.ensures
 
-pub pack-spec : {M : Type 1} → statement M
-pack-spec =
+pub pack_spec : {M : Type 1} → statement M
+pack_spec =
     tie.close
     (tie.spec
-    take-all-requires
-    slice-reshare-prefix-lay-out
-    slice-aggregate-lay-out
-    lay-out-requires
+    take_all-emptied-requires
+    slice_bounds-lay_out-end
+    slice_bounds-lay_out-end-2
+    lay_out-requires
     at-requires
-    s-requires
-    sub_used
-    add-used
-    div-used
-    add-put-counter
-    put-counter-requires
-    same_length
-    same-length-2
+    s-size-requires
+    overflow_sub-used
+    overflow_add-used
+    nonzero_div-used
+    overflow_add-used-2
+    put_counter-requires
+    shape_of-a
+    shape_of-work
     returns)

@@ -6,41 +6,40 @@ use borrow.Author.Rules.{rules}
 use Rattle.sweeps.proofs.refill_from.Statement.{statement}
 use Rattle.sweeps.proofs.refill_from.Tie as tie
 
-mul-refill : tie.Need-overflow-mul-refill
-mul-refill c = search rules
+offset_bounds-work-at : tie.Need-offset_bounds-work-at
+offset_bounds-work-at c = search rules
 
-sub-refill : tie.Need-overflow-sub-refill
-sub-refill c = search rules
+slice_bounds-refill-count : tie.Need-slice_bounds-refill-count
+slice_bounds-refill-count c = search rules
 
-part-refill-start : tie.Need-slice-bounds-refill-start
-part-refill-start c = search rules
+slice_bounds-refill-start : tie.Need-slice_bounds-refill-start
+slice_bounds-refill-start c = search rules
 
-part-refill-end : tie.Need-slice-bounds-refill-end
-part-refill-end c = search rules
+slice_bounds-refill-end : tie.Need-slice_bounds-refill-end
+slice_bounds-refill-end c = search rules
 
-slice-aggregate-refill : tie.Need-slice-aggregate-refill
-slice-aggregate-refill c =
-    let s = c.before.before.before.before.before in
-    sym (length-take-le s.args.at s.args.work.now (omega (arith, s.requires.inside, s.requires.within)))
+slice_bounds-refill-end-2 : tie.Need-slice_bounds-refill-end-2
+slice_bounds-refill-end-2 c =
+    sym (length-take-le c.args.at c.args.work.now (omega (arith, c.requires.inside, c.requires.within)))
 
 refill-requires : tie.Need-refill-requires
 refill-requires c κs = search rules
 
-same_length : tie.Need-same-length
-same_length c = search rules
+shape_of-a : tie.Need-shape_of-a
+shape_of-a c = search rules
 
 returns : tie.Need-returns
 returns c = search rules
 
-pub refill-from-spec : {M : Type 1} → statement M
-refill-from-spec =
+pub refill_from_spec : {M : Type 1} → statement M
+refill_from_spec =
     tie.close
     (tie.spec
-    mul-refill
-    sub-refill
-    part-refill-start
-    part-refill-end
-    slice-aggregate-refill
+    offset_bounds-work-at
+    slice_bounds-refill-count
+    slice_bounds-refill-start
+    slice_bounds-refill-end
+    slice_bounds-refill-end-2
     refill-requires
-    same_length
+    shape_of-a
     returns)

@@ -5,47 +5,47 @@ use borrow.Author.Rules.{rules}
 use Rattle.takes.proofs.head_now.Statement.{statement}
 use Rattle.takes.proofs.head_now.Tie as tie
 
-smaller-head-requires : tie.Need-smaller-head-requires
-smaller-head-requires c κs = search rules
+smaller_head-requires : tie.Need-smaller_head-requires
+smaller_head-requires c κs = search rules
 
-enum_told : tie.Need-enum-told
-enum_told c = search rules
+enum_told-1 : tie.Need-enum_told-1
+enum_told-1 c = search rules
 
-enum-told-2 : tie.Need-enum-told-2
-enum-told-2 c = search rules
+enum_told-in-First : tie.Need-enum_told-in-First
+enum_told-in-First c = search rules
 
-add-head : tie.Need-overflow-add-head
-add-head c = search rules
+overflow_add-head : tie.Need-overflow_add-head
+overflow_add-head c = search rules
 
 head-requires : tie.Need-head-requires
-head-requires c κs = first_head_can _ c.before.before.before.before.args.a.now c.before.before.before.before.args.last c.before.before.before.before.requires (sym c.enum-told2.given.1 ∙ c.before.before.smaller-head.ensures)
+head-requires c κs = first_head_can _ c.args.a.now c.args.last c.requires (sym c.in-First.is ∙ c.smaller_head.ensures)
 
-enum-told-3 : tie.Need-enum-told-3
-enum-told-3 c = search rules
+enum_told-in-Insertion : tie.Need-enum_told-in-Insertion
+enum_told-in-Insertion c = search rules
 
-head-requires-2 : tie.Need-head-requires-2
-head-requires-2 c κs = insertion_head_can _ c.before.before.before.before.args.a.now c.before.before.before.before.args.last c.before.before.before.before.requires (sym c.enum-told3.given.1 ∙ c.before.before.smaller-head.ensures)
+head-requires-in-Insertion : tie.Need-head-requires-in-Insertion
+head-requires-in-Insertion c κs = insertion_head_can _ c.args.a.now c.args.last c.requires (sym c.in-Insertion.is ∙ c.smaller_head.ensures)
 
-returns : tie.Need-returns
-returns c = head_none _ c.before.before.before.before.args.a.now c.before.before.before.before.args.last c.before.before.before.before.requires (sym c.enum_told.given.1 ∙ c.before.before.smaller-head.ensures)
+returns-in-Neither : tie.Need-returns-in-Neither
+returns-in-Neither c = head_none _ c.args.a.now c.args.last c.requires (sym c.in-Neither.is ∙ c.smaller_head.ensures)
 
-returns-2 : tie.Need-returns-2
-returns-2 c = first_head _ c.before.before.before.before.before.args.a.now c.before.before.before.before.before.args.last c.before.before.before.before.before.requires (sym c.before.enum-told2.given.1 ∙ c.before.before.before.smaller-head.ensures) _ c.head.ensures
+returns-in-First : tie.Need-returns-in-First
+returns-in-First c = first_head _ c.args.a.now c.args.last c.requires (sym c.in-First.is ∙ c.smaller_head.ensures) _ c.head.ensures
 
-returns-3 : tie.Need-returns-3
-returns-3 c = insertion_head _ c.before.before.before.before.before.args.a.now c.before.before.before.before.before.args.last c.before.before.before.before.before.requires (sym c.before.enum-told3.given.1 ∙ c.before.before.before.smaller-head.ensures) _ c.head2.ensures
+returns-in-Insertion : tie.Need-returns-in-Insertion
+returns-in-Insertion c = insertion_head _ c.args.a.now c.args.last c.requires (sym c.in-Insertion.is ∙ c.smaller_head.ensures) _ c.head-in-Insertion.ensures
 
-pub head-now-spec : {M : Type 1} → statement M
-head-now-spec =
+pub head_now_spec : {M : Type 1} → statement M
+head_now_spec =
     tie.close
     (tie.spec
-    smaller-head-requires
-    enum_told
-    enum-told-2
-    add-head
+    smaller_head-requires
+    enum_told-1
+    enum_told-in-First
+    overflow_add-head
     head-requires
-    enum-told-3
-    head-requires-2
-    returns
-    returns-2
-    returns-3)
+    enum_told-in-Insertion
+    head-requires-in-Insertion
+    returns-in-Neither
+    returns-in-First
+    returns-in-Insertion)

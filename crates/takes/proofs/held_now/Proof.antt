@@ -6,75 +6,75 @@ use Rattle.takes.proofs.SumLaws.{Summed, sum_start, first_links, sum_more, sum_a
 use Rattle.takes.proofs.held_now.Statement.{statement}
 use Rattle.takes.proofs.held_now.Tie as tie
 
-abbrev invariant-loop : tie.invariant-loop
-invariant-loop a links end sum₀ n₀ sum n = Summed a end n sum
+abbrev invariant-loop-n : tie.invariant-loop-n
+invariant-loop-n a links end sum₀ n₀ sum n = Summed a end n sum
 
-abbrev decreases-loop : tie.decreases-loop
-decreases-loop a links end sum₀ n₀ sum n = end - n
+abbrev decreases-loop-n : tie.decreases-loop-n
+decreases-loop-n a links end sum₀ n₀ sum n = end - n
 
-add_at : tie.Need-overflow-add-at invariant-loop decreases-loop
-add_at c = omega (arith, c.before.requires.1, c.before.requires.0.link.high)
+overflow_add-links : tie.Need-overflow_add-links invariant-loop-n decreases-loop-n
+overflow_add-links c = omega (arith, c.requires.1, c.requires.0.link.high)
 
-at-requires : tie.Need-at-requires invariant-loop decreases-loop
+at-requires : tie.Need-at-requires invariant-loop-n decreases-loop-n
 at-requires c κs = tt
 
-first-requires : tie.Need-first-requires invariant-loop decreases-loop
-first-requires c κs = (omega (arith, c.at.ensures), omega (arith, c.at.ensures, c.before.before.requires.1, c.before.before.requires.0.link.high))
+first-end-requires : tie.Need-first-end-requires invariant-loop-n decreases-loop-n
+first-end-requires c κs = (omega (arith, c.at.ensures), omega (arith, c.at.ensures, c.requires.1, c.requires.0.link.high))
 
-loop-holds : tie.Need-loop-init invariant-loop decreases-loop
-loop-holds c = sum_start c.before.before.before.args.a.now _
+loop-n-init : tie.Need-loop-n-init invariant-loop-n decreases-loop-n
+loop-n-init c = sum_start c.args.a.now _
 
-count-requires : tie.Need-count-requires invariant-loop decreases-loop
+count-requires : tie.Need-count-requires invariant-loop-n decreases-loop-n
 count-requires c κs =
     let z = c.before.before.before.before.before in
     let ws = z.args.a.now in
-    let h = first_links ws z.args.links _ _ z.requires.0 z.requires.1 c.before.before.before.at.ensures c.before.before.first.ensures in
-    has ws c.before.loop.n z.requires.0 (omega (arith, h.among, c.loop-test.true))
+    let h = first_links ws z.args.links _ _ z.requires.0 z.requires.1 c.at.ensures c.first-end.ensures in
+    has ws c.loop-n.n z.requires.0 (omega (arith, h.among, c.loop-n-test.true))
 
-add-sum : tie.Need-overflow-add-sum invariant-loop decreases-loop
-add-sum c =
+overflow_add-sum : tie.Need-overflow_add-sum invariant-loop-n decreases-loop-n
+overflow_add-sum c =
     let z = c.before.before.before.before.before.before in
     let ws = z.args.a.now in
-    let h = first_links ws z.args.links _ _ z.requires.0 z.requires.1 c.before.before.before.before.at.ensures c.before.before.before.first.ensures in
-    omega (arith, (sum_more ws z.args.links _ c.before.before.loop.n c.before.before.loop.sum c.count.result h c.before.loop-test.true c.before.before.loop.invariant c.count.ensures).small, h.few, c.before.loop-test.true)
+    let h = first_links ws z.args.links _ _ z.requires.0 z.requires.1 c.at.ensures c.first-end.ensures in
+    omega (arith, (sum_more ws z.args.links _ c.loop-n.n c.loop-n.sum c.count.result h c.loop-n-test.true c.loop-n.invariant c.count.ensures).small, h.few, c.loop-n-test.true)
 
-add-n : tie.Need-overflow-add-n invariant-loop decreases-loop
-add-n c =
+overflow_add-n : tie.Need-overflow_add-n invariant-loop-n decreases-loop-n
+overflow_add-n c =
     let z = c.before.before.before.before.before.before in
     let ws = z.args.a.now in
-    let h = first_links ws z.args.links _ _ z.requires.0 z.requires.1 c.before.before.before.before.at.ensures c.before.before.before.first.ensures in
-    omega (arith, c.before.loop-test.true, h.few)
+    let h = first_links ws z.args.links _ _ z.requires.0 z.requires.1 c.at.ensures c.first-end.ensures in
+    omega (arith, c.loop-n-test.true, h.few)
 
-loop-less : tie.Need-loop-smaller invariant-loop decreases-loop
-loop-less c = omega (arith, c.before.loop-test.true)
+loop-n-smaller : tie.Need-loop-n-smaller invariant-loop-n decreases-loop-n
+loop-n-smaller c = omega (arith, c.loop-n-test.true)
 
-loop-again : tie.Need-loop-preserved invariant-loop decreases-loop
-loop-again c =
+loop-n-preserved : tie.Need-loop-n-preserved invariant-loop-n decreases-loop-n
+loop-n-preserved c =
     let z = c.before.before.before.before.before.before in
     let ws = z.args.a.now in
-    let h = first_links ws z.args.links _ _ z.requires.0 z.requires.1 c.before.before.before.before.at.ensures c.before.before.before.first.ensures in
-    sum_more ws z.args.links _ c.before.before.loop.n c.before.before.loop.sum c.count.result h c.before.loop-test.true c.before.before.loop.invariant c.count.ensures
+    let h = first_links ws z.args.links _ _ z.requires.0 z.requires.1 c.at.ensures c.first-end.ensures in
+    sum_more ws z.args.links _ c.loop-n.n c.loop-n.sum c.count.result h c.loop-n-test.true c.loop-n.invariant c.count.ensures
 
-returns : tie.Need-returns invariant-loop decreases-loop
+returns : tie.Need-returns invariant-loop-n decreases-loop-n
 returns c =
     let z = c.before.before.before.before.before in
     let ws = z.args.a.now in
-    let h = first_links ws z.args.links _ _ z.requires.0 z.requires.1 c.before.before.before.at.ensures c.before.before.first.ensures in
-    sum_all_lem ws z.args.links _ c.before.loop.n _ h (omega (arith, c.loop-test.false)) c.before.loop.invariant
+    let h = first_links ws z.args.links _ _ z.requires.0 z.requires.1 c.at.ensures c.first-end.ensures in
+    sum_all_lem ws z.args.links _ c.loop-n.n _ h (omega (arith, c.loop-n-test.false)) c.loop-n.invariant
 
-pub held-now-spec : {M : Type 1} → statement M
-held-now-spec =
+pub held_now_spec : {M : Type 1} → statement M
+held_now_spec =
     tie.close
     (tie.spec
-    invariant-loop
-    decreases-loop
-    add_at
+    invariant-loop-n
+    decreases-loop-n
+    overflow_add-links
     at-requires
-    first-requires
-    loop-holds
+    first-end-requires
+    loop-n-init
     count-requires
-    add-sum
-    add-n
-    loop-less
-    loop-again
+    overflow_add-sum
+    overflow_add-n
+    loop-n-smaller
+    loop-n-preserved
     returns)

@@ -5,25 +5,25 @@ use borrow.Author.Rules.{rules}
 use Rattle.takes.proofs.make_ready.Statement.{statement}
 use Rattle.takes.proofs.make_ready.Tie as tie
 
-wants-in-requires : tie.Need-wants-in-requires
-wants-in-requires c κs = λ low. first_has c.before.before.args.a.now c.before.before.args.last c.before.before.requires
+wants_in-requires : tie.Need-wants_in-requires
+wants_in-requires c κs = λ low. first_has c.args.a.now c.args.last c.requires
 
 fill-requires : tie.Need-fill-requires
-fill-requires c κs = ready_can c.before.before.before.before.before.args.a.now c.before.before.before.before.before.args.last c.before.before.before.before.before.requires (sym c.before.before.wants-in.ensures ∙ c.before.if1.true)
+fill-requires c κs = ready_can c.args.a.now c.args.last c.requires (sym c.wants_in.ensures ∙ c.if-wants_in.true)
 
-same_length : tie.Need-same-length
-same_length c = search rules
+shape_of-a-then-wants_in : tie.Need-shape_of-a-then-wants_in
+shape_of-a-then-wants_in c = search rules
+
+returns-then-wants_in : tie.Need-returns-then-wants_in
+returns-then-wants_in c = ready_filled c.args.a.now c.args.last c.requires _ (sym c.wants_in.ensures ∙ c.if-wants_in.true) _ _ c.fill.ensures
+
+shape_of-a : tie.Need-shape_of-a
+shape_of-a c = search rules
 
 returns : tie.Need-returns
-returns c = ready_filled c.before.before.before.before.before.before.before.before.args.a.now c.before.before.before.before.before.before.before.before.args.last c.before.before.before.before.before.before.before.before.requires _ (sym c.before.before.before.before.before.wants-in.ensures ∙ c.before.before.before.before.if1.true) _ _ c.before.before.fill.ensures
+returns c = ready_alone c.args.a.now c.args.last c.requires _ (sym c.wants_in.ensures ∙ c.if-wants_in.false)
 
-same-length-2 : tie.Need-same-length-2
-same-length-2 c = search rules
-
-returns-2 : tie.Need-returns-2
-returns-2 c = ready_alone c.before.before.before.before.args.a.now c.before.before.before.before.args.last c.before.before.before.before.requires _ (sym c.before.wants-in.ensures ∙ c.if1.false)
-
-pub make-ready-spec : {M : Type 1} → statement M
-make-ready-spec =
+pub make_ready_spec : {M : Type 1} → statement M
+make_ready_spec =
     tie.close
-    (tie.spec wants-in-requires fill-requires same_length returns same-length-2 returns-2)
+    (tie.spec wants_in-requires fill-requires shape_of-a-then-wants_in returns-then-wants_in shape_of-a returns)

@@ -7,73 +7,73 @@ use Rattle.takes.proofs.EmptyLaws.{Emptying, empty_start, work_long, place_in, e
 use Rattle.takes.proofs.take_all.Statement.{statement}
 use Rattle.takes.proofs.take_all.Tie as tie
 
-abbrev invariant-loop : tie.invariant-loop
-invariant-loop rule a₀ last work₀ count steps₀ n₀ a work steps n = Emptying (key_by rule) a₀ last work₀ a work count n steps
+abbrev invariant-loop-n : tie.invariant-loop-n
+invariant-loop-n rule a₀ last work₀ count steps₀ n₀ a work steps n = Emptying (key_by rule) a₀ last work₀ a work count n steps
 
-abbrev decreases-loop : tie.decreases-loop
-decreases-loop rule a₀ last work₀ count steps₀ n₀ a work steps n = count - n
+abbrev decreases-loop-n : tie.decreases-loop-n
+decreases-loop-n rule a₀ last work₀ count steps₀ n₀ a work steps n = count - n
 
-held-now-requires : tie.Need-held-now-requires invariant-loop decreases-loop
-held-now-requires c κs = (c.before.before.before.requires.can.array, c.before.before.before.requires.can.links)
+held_now-count-requires : tie.Need-held_now-count-requires invariant-loop-n decreases-loop-n
+held_now-count-requires c κs = (c.requires.can.array, c.requires.can.links)
 
-loop-holds : tie.Need-loop-init invariant-loop decreases-loop
-loop-holds c = empty_start c.before.before.before.before.args.a.now c.before.before.before.before.args.last c.before.before.before.before.args.work.now _ c.before.before.before.before.requires.can c.held-now.ensures
+loop-n-init : tie.Need-loop-n-init invariant-loop-n decreases-loop-n
+loop-n-init c = empty_start c.args.a.now c.args.last c.args.work.now _ c.requires.can c.held_now-count.ensures
 
-take-one-requires : tie.Need-take-one-requires invariant-loop decreases-loop
-take-one-requires c κs = c.before.before.loop.invariant.so_far.can
+take_one-t-requires : tie.Need-take_one-t-requires invariant-loop-n decreases-loop-n
+take_one-t-requires c κs = c.loop-n.invariant.so_far.can
 
-mul-work : tie.Need-overflow-mul-work invariant-loop decreases-loop
-mul-work c =
-    let room : c.before.before.before.before.before.before.held-now.result ≤ length c.before.before.before.before.before.before.before.before.before.before.args.work.now = omega (arith, c.before.before.before.before.before.before.before.before.before.before.requires.room, c.before.before.before.before.before.before.held-now.ensures) in
-    omega (arith, place_in _ _ _ _ _ _ _ _ c.before.before.before.before.before.loop.invariant c.before.before.before.before.loop-test.true room, work_long _ _ _ _ _ _ _ _ c.before.before.before.before.before.loop.invariant room)
+offset_bounds-work-n : tie.Need-offset_bounds-work-n invariant-loop-n decreases-loop-n
+offset_bounds-work-n c =
+    let room : c.held_now-count.result ≤ length c.args.work.now = omega (arith, c.requires.room, c.held_now-count.ensures) in
+    omega (arith, place_in _ _ _ _ _ _ _ _ c.loop-n.invariant c.loop-n-test.true room, work_long _ _ _ _ _ _ _ _ c.loop-n.invariant room)
 
-slice-write-work : tie.Need-slice-write-work invariant-loop decreases-loop
-slice-write-work c =
-    let room : c.before.before.before.before.before.before.held-now.result ≤ length c.before.before.before.before.before.before.before.before.before.before.args.work.now = omega (arith, c.before.before.before.before.before.before.before.before.before.before.requires.room, c.before.before.before.before.before.before.held-now.ensures) in
-    place_in _ _ _ _ _ _ _ _ c.before.before.before.before.before.loop.invariant c.before.before.before.before.loop-test.true room
+bounds-work-n : tie.Need-bounds-work-n invariant-loop-n decreases-loop-n
+bounds-work-n c =
+    let room : c.held_now-count.result ≤ length c.args.work.now = omega (arith, c.requires.room, c.held_now-count.ensures) in
+    place_in _ _ _ _ _ _ _ _ c.loop-n.invariant c.loop-n-test.true room
 
-add-steps : tie.Need-overflow-add-steps invariant-loop decreases-loop
-add-steps c =
-    let small = total_small _ _ _ c.before.before.before.before.before.before.before.before.before.before.before.requires.can c.before.before.before.before.before.before.before.held-now.ensures in
-    omega (arith, steps_fit _ _ _ _ _ _ _ _ c.before.before.before.before.before.before.loop.invariant c.before.before.before.before.before.loop-test.true small _ _ _ _ c.before.before.before.take-one.ensures)
+overflow_add-steps : tie.Need-overflow_add-steps invariant-loop-n decreases-loop-n
+overflow_add-steps c =
+    let small = total_small _ _ _ c.requires.can c.held_now-count.ensures in
+    omega (arith, steps_fit _ _ _ _ _ _ _ _ c.loop-n.invariant c.loop-n-test.true small _ _ _ _ c.take_one-t.ensures)
 
-add-n : tie.Need-overflow-add-n invariant-loop decreases-loop
-add-n c =
-    let small = total_small _ _ _ c.before.before.before.before.before.before.before.before.before.before.before.requires.can c.before.before.before.before.before.before.before.held-now.ensures in
-    omega (arith, c.before.before.before.before.before.loop-test.true)
+overflow_add-n : tie.Need-overflow_add-n invariant-loop-n decreases-loop-n
+overflow_add-n c =
+    let small = total_small _ _ _ c.requires.can c.held_now-count.ensures in
+    omega (arith, c.loop-n-test.true)
 
-loop-less : tie.Need-loop-smaller invariant-loop decreases-loop
-loop-less c = omega (arith, c.before.before.before.before.before.loop-test.true)
+loop-n-smaller : tie.Need-loop-n-smaller invariant-loop-n decreases-loop-n
+loop-n-smaller c = omega (arith, c.loop-n-test.true)
 
-loop-again : tie.Need-loop-preserved invariant-loop decreases-loop
-loop-again c =
-    let room : c.before.before.before.before.before.before.before.held-now.result ≤ length c.before.before.before.before.before.before.before.before.before.before.before.args.work.now = omega (arith, c.before.before.before.before.before.before.before.before.before.before.before.requires.room, c.before.before.before.before.before.before.before.held-now.ensures) in
-    empty_more _ _ _ _ _ _ _ _ c.before.before.before.before.before.before.loop.invariant c.before.before.before.before.before.loop-test.true room _ _ _ _ c.before.before.before.take-one.ensures
+loop-n-preserved : tie.Need-loop-n-preserved invariant-loop-n decreases-loop-n
+loop-n-preserved c =
+    let room : c.held_now-count.result ≤ length c.args.work.now = omega (arith, c.requires.room, c.held_now-count.ensures) in
+    empty_more _ _ _ _ _ _ _ _ c.loop-n.invariant c.loop-n-test.true room _ _ _ _ c.take_one-t.ensures
 
-same_length : tie.Need-same-length invariant-loop decreases-loop
-same_length c = c.before.loop.invariant.so_far.kept.long
+shape_of-a : tie.Need-shape_of-a invariant-loop-n decreases-loop-n
+shape_of-a c = c.loop-n.invariant.so_far.kept.long
 
-same-length-2 : tie.Need-same-length-2 invariant-loop decreases-loop
-same-length-2 c = work_long _ _ _ _ _ _ _ _ c.before.loop.invariant (omega (arith, c.before.before.before.before.before.before.requires.room, c.before.before.held-now.ensures))
+shape_of-work : tie.Need-shape_of-work invariant-loop-n decreases-loop-n
+shape_of-work c = work_long _ _ _ _ _ _ _ _ c.loop-n.invariant (omega (arith, c.requires.room, c.held_now-count.ensures))
 
-returns : tie.Need-returns invariant-loop decreases-loop
-returns c = empty_all _ _ _ _ _ _ _ _ c.before.before.before.before.before.before.requires.can c.before.before.held-now.ensures c.before.loop.invariant (omega (arith, c.loop-test.false))
+returns : tie.Need-returns invariant-loop-n decreases-loop-n
+returns c = empty_all _ _ _ _ _ _ _ _ c.requires.can c.held_now-count.ensures c.loop-n.invariant (omega (arith, c.loop-n-test.false))
 
 pub take_all_spec : {M : Type 1} → statement M
 take_all_spec =
     tie.close
     (tie.spec
-    invariant-loop
-    decreases-loop
-    held-now-requires
-    loop-holds
-    take-one-requires
-    mul-work
-    slice-write-work
-    add-steps
-    add-n
-    loop-less
-    loop-again
-    same_length
-    same-length-2
+    invariant-loop-n
+    decreases-loop-n
+    held_now-count-requires
+    loop-n-init
+    take_one-t-requires
+    offset_bounds-work-n
+    bounds-work-n
+    overflow_add-steps
+    overflow_add-n
+    loop-n-smaller
+    loop-n-preserved
+    shape_of-a
+    shape_of-work
     returns)

@@ -5,63 +5,63 @@ use borrow.Author.Rules.{rules}
 use Rattle.takes.proofs.take_one.Statement.{statement}
 use Rattle.takes.proofs.take_one.Tie as tie
 
-make-ready-requires : tie.Need-make-ready-requires
-make-ready-requires c κs = search rules
+make_ready-steps-requires : tie.Need-make_ready-steps-requires
+make_ready-steps-requires c κs = search rules
 
-smaller-head-requires : tie.Need-smaller-head-requires
-smaller-head-requires c κs = can_now _ c.before.before.before.before.before.before.args.a.now c.before.before.before.before.before.before.args.last c.before.before.before.before.before.before.requires _ _ c.before.before.before.make-ready.ensures
+smaller_head-requires : tie.Need-smaller_head-requires
+smaller_head-requires c κs = can_now _ c.args.a.now c.args.last c.requires _ _ c.make_ready-steps.ensures
 
-enum_told : tie.Need-enum-told
-enum_told c = search rules
+enum_told-1 : tie.Need-enum_told-1
+enum_told-1 c = search rules
 
-enum-told-2 : tie.Need-enum-told-2
-enum-told-2 c = search rules
+enum_told-in-First : tie.Need-enum_told-in-First
+enum_told-in-First c = search rules
 
-add-hand-out : tie.Need-overflow-add-hand-out
-add-hand-out c = search rules
+overflow_add-hand_out : tie.Need-overflow_add-hand_out
+overflow_add-hand_out c = search rules
 
-hand-out-requires : tie.Need-hand-out-requires
-hand-out-requires c κs = first_can _ c.before.before.before.before.before.before.before.before.before.before.args.a.now c.before.before.before.before.before.before.before.before.before.before.args.last c.before.before.before.before.before.before.before.before.before.before.requires _ _ c.before.before.before.before.before.before.before.make-ready.ensures (sym c.before.enum-told2.given.1 ∙ c.before.before.before.smaller-head.ensures)
+hand_out-entry-requires : tie.Need-hand_out-entry-requires
+hand_out-entry-requires c κs = first_can _ c.args.a.now c.args.last c.requires _ _ c.make_ready-steps.ensures (sym c.in-First.is ∙ c.smaller_head.ensures)
 
-enum-told-3 : tie.Need-enum-told-3
-enum-told-3 c = search rules
+enum_told-in-Insertion : tie.Need-enum_told-in-Insertion
+enum_told-in-Insertion c = search rules
 
-hand-out-requires-2 : tie.Need-hand-out-requires-2
-hand-out-requires-2 c κs = insertion_can _ c.before.before.before.before.before.before.before.before.before.before.args.a.now c.before.before.before.before.before.before.before.before.before.before.args.last c.before.before.before.before.before.before.before.before.before.before.requires _ _ c.before.before.before.before.before.before.before.make-ready.ensures (sym c.before.enum-told3.given.1 ∙ c.before.before.before.smaller-head.ensures)
+hand_out-entry-requires-in-Insertion : tie.Need-hand_out-entry-requires-in-Insertion
+hand_out-entry-requires-in-Insertion c κs = insertion_can _ c.args.a.now c.args.last c.requires _ _ c.make_ready-steps.ensures (sym c.in-Insertion.is ∙ c.smaller_head.ensures)
 
-same_length : tie.Need-same-length
-same_length c = search rules
+shape_of-a-in-Neither : tie.Need-shape_of-a-in-Neither
+shape_of-a-in-Neither c = search rules
 
-returns : tie.Need-returns
-returns c = took_none _ c.before.before.before.before.before.before.before.before.before.args.a.now c.before.before.before.before.before.before.before.before.before.args.last c.before.before.before.before.before.before.before.before.before.requires _ _ c.before.before.before.before.before.before.make-ready.ensures (sym c.enum_told.given.1 ∙ c.before.before.smaller-head.ensures)
+returns-in-Neither : tie.Need-returns-in-Neither
+returns-in-Neither c = took_none _ c.args.a.now c.args.last c.requires _ _ c.make_ready-steps.ensures (sym c.in-Neither.is ∙ c.smaller_head.ensures)
 
-same-length-2 : tie.Need-same-length-2
-same-length-2 c = search rules
+shape_of-a-in-First : tie.Need-shape_of-a-in-First
+shape_of-a-in-First c = search rules
 
-returns-2 : tie.Need-returns-2
-returns-2 c = took_first _ c.before.before.before.before.before.before.before.before.before.before.before.before.before.args.a.now c.before.before.before.before.before.before.before.before.before.before.before.before.before.args.last c.before.before.before.before.before.before.before.before.before.before.before.before.before.requires _ _ c.before.before.before.before.before.before.before.before.before.before.make-ready.ensures (sym c.before.before.before.before.enum-told2.given.1 ∙ c.before.before.before.before.before.before.smaller-head.ensures) _ _ c.before.before.hand-out.ensures.0 c.before.before.hand-out.ensures.1.0 c.before.before.hand-out.ensures.1.1
+returns-in-First : tie.Need-returns-in-First
+returns-in-First c = took_first _ c.args.a.now c.args.last c.requires _ _ c.make_ready-steps.ensures (sym c.in-First.is ∙ c.smaller_head.ensures) _ _ c.hand_out-entry.ensures.0 c.hand_out-entry.ensures.1.0 c.hand_out-entry.ensures.1.1
 
-same-length-3 : tie.Need-same-length-3
-same-length-3 c = search rules
+shape_of-a-in-Insertion : tie.Need-shape_of-a-in-Insertion
+shape_of-a-in-Insertion c = search rules
 
-returns-3 : tie.Need-returns-3
-returns-3 c = took_insertion _ c.before.before.before.before.before.before.before.before.before.before.before.before.before.args.a.now c.before.before.before.before.before.before.before.before.before.before.before.before.before.args.last c.before.before.before.before.before.before.before.before.before.before.before.before.before.requires _ _ c.before.before.before.before.before.before.before.before.before.before.make-ready.ensures (sym c.before.before.before.before.enum-told3.given.1 ∙ c.before.before.before.before.before.before.smaller-head.ensures) _ _ c.before.before.hand-out2.ensures.0 c.before.before.hand-out2.ensures.1.0 c.before.before.hand-out2.ensures.1.1
+returns-in-Insertion : tie.Need-returns-in-Insertion
+returns-in-Insertion c = took_insertion _ c.args.a.now c.args.last c.requires _ _ c.make_ready-steps.ensures (sym c.in-Insertion.is ∙ c.smaller_head.ensures) _ _ c.hand_out-entry-in-Insertion.ensures.0 c.hand_out-entry-in-Insertion.ensures.1.0 c.hand_out-entry-in-Insertion.ensures.1.1
 
-pub take-one-spec : {M : Type 1} → statement M
-take-one-spec =
+pub take_one_spec : {M : Type 1} → statement M
+take_one_spec =
     tie.close
     (tie.spec
-    make-ready-requires
-    smaller-head-requires
-    enum_told
-    enum-told-2
-    add-hand-out
-    hand-out-requires
-    enum-told-3
-    hand-out-requires-2
-    same_length
-    returns
-    same-length-2
-    returns-2
-    same-length-3
-    returns-3)
+    make_ready-steps-requires
+    smaller_head-requires
+    enum_told-1
+    enum_told-in-First
+    overflow_add-hand_out
+    hand_out-entry-requires
+    enum_told-in-Insertion
+    hand_out-entry-requires-in-Insertion
+    shape_of-a-in-Neither
+    returns-in-Neither
+    shape_of-a-in-First
+    returns-in-First
+    shape_of-a-in-Insertion
+    returns-in-Insertion)
