@@ -20,7 +20,7 @@ use Rattle.rules.specs.Fill.{Filled}
 use Rattle.rules.specs.Take.{Taken, take_one, ready, hand_out, insertion}
 use Rattle.rules.specs.Queue.{Queue, key_of, held}
 use Rattle.rules.specs.Order.{in_order}
-use Rattle.rules.specs.Book.{sound, count}
+use Rattle.rules.specs.Book.{sound}
 use Rattle.rules.specs.Calls.{Lent, Outcome, Check, ◌else◌, first_failing, refused, unless, array_checks, take_checks, queue_of, with_buffers, the_entry, take, look, held_call, audit}
 use Rattle.rules.proofs.Sizes.{book_in_words}
 use Rattle.rules.proofs.Tests.{truth}

@@ -17,7 +17,7 @@ use Rattle.rules.specs.Links.{k, number_of_s, buffer_count, words}
 use Rattle.rules.specs.Tree.{links_from, tree_of}
 use Rattle.rules.specs.Queue.{Queue, counter, held}
 use Rattle.rules.specs.Book.{sound}
-use Rattle.rules.specs.Insert.{placed, lowest, Inserted, packed, entered, make_room, inserted}
+use Rattle.rules.specs.Insert.{placed, lowest, Inserted, entered, make_room, inserted}
 use Rattle.rules.specs.Calls.{Outcome, queue_of, with_buffers, first_failing, insert_checks, refused, insert}
 use Rattle.rules.proofs.Numbers.{Stands}
 use Rattle.rules.proofs.Sizes.{first_one}
@@ -31,7 +31,7 @@ use Rattle.rules.proofs.InsertLaws.{now_kept, inserted_kept}
 use Rattle.rules.proofs.Accepted.{MayInsert, insert_call_cases}
 use Rattle.buffers.specs.Format.{links_in, counter_in, rule_in, mark_in, many, book_of, lent_of, buffer_of, buffers_of}
 use Rattle.buffers.specs.Post.{Inside, Has, Now, Kept, Word}
-use Rattle.buffers.proofs.ArrayLaws.{has, each_at, buffer_length, buffers_at, only_word, only_kept, kept_links, kept_unused}
+use Rattle.buffers.proofs.ArrayLaws.{each_at, buffer_length, buffers_at, only_word, only_kept, kept_links, kept_unused}
 use Rattle.buffers.proofs.KeyLaws.{key_given, rule_kept}
 use Rattle.mergers.proofs.FillLaws.{marks_less}
 use Rattle.paths.specs.Placing.{Placing}

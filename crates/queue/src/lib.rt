@@ -1,4 +1,6 @@
 // The queue's calls over a lent array, and their checks.
+#![tactic(auto)]
+
 ghost use Rattle.std.specs.Prelude.{◌≡◌, [], ◌∷◌, length, false};
 ghost use Rattle.rules.specs.Calls.{first_failing, array_checks, insert_checks, take_checks, queue_of, ◌else◌};
 ghost use Rattle.rules.specs.Calls as rules;
@@ -31,7 +33,7 @@ fn array_checked(a: &[u64]) -> Answer
 }
 
 // What checks answer, and how many entries are held where none fails.
-#[derive(Drop)]
+#[derive(Clone, Copy)]
 pub struct Found {
     pub answer: Answer,
     pub held: u64,
@@ -63,7 +65,7 @@ fn checked(a: &[u64]) -> Found
 }
 
 // What a call answers.
-#[derive(Drop)]
+#[derive(Clone, Copy)]
 pub struct Outcome {
     pub answer: Answer,
     pub word: u64,

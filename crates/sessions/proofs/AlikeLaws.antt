@@ -4,11 +4,9 @@ use mathlib.Core.Bool.{Bool, true, false}
 use mathlib.Core.List.{List, [], ◌∷◌, ◌++◌}
 use Prim.Native.Nat.{ℕ}
 use Rattle.rules.specs.Answers.{number_of, is_done}
-use Rattle.rules.specs.Links.{words}
 use Rattle.rules.specs.Queue.{Queue}
 use Rattle.rules.specs.Calls.{Lent, Outcome, queue_of}
 use Rattle.rules.specs.Calls as rules
-use Rattle.rules.specs.Examples.{Order}
 use Rattle.frames.specs.Answers.{Back}
 use Rattle.frames.specs.AnswerLine.{answer_line}
 use Rattle.frames.specs.declared.Order as frame

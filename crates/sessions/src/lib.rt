@@ -1,4 +1,6 @@
 // Frames run over lent memory: one line in, one answer line out, the input in any pieces.
+#![tactic(auto)]
+
 ghost use Rattle.std.specs.Prelude.{[], ◌∷◌, ◌+◌, ◌≤◌, length};
 ghost use Rattle.frames.specs.Answers.{read_back};
 ghost use Rattle.lines.specs.Answers.{ended_back};
@@ -91,7 +93,7 @@ fn answer_at(a: &mut [u64], work: &mut [u64], ended: Ended, out: &mut [u8], at: 
 }
 
 // at is the place behind the last byte that was read, written how many bytes of answers were written.
-#[derive(Drop)]
+#[derive(Clone, Copy)]
 pub struct Ran {
     pub cutter: Cutter,
     pub at: usize,

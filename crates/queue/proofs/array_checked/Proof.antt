@@ -19,26 +19,26 @@ words-requires c κs = search rules
 
 -- what one link needs
 one-needs : (c : tie.After-words) → c.words.result ≡ words 1
-one-needs c = c.words.ensures ∙ ap words c.before.at.ensures
+one-needs c = c.words.ensures ∙ ap words c.at.ensures
 
-returns : tie.Need-returns
-returns c = too_short c.before.before.before.before.args.a.now (omega (arith, one-needs c.before, c.if1.true))
+returns-then-a-words : tie.Need-returns-then-a-words
+returns-then-a-words c = too_short c.args.a.now (omega (arith, one-needs c.before, c.if-a-words.true))
 
-long : (c : tie.Else1) → words 1 ≤ length c.before.before.before.before.args.a.now
-long c = omega (arith, one-needs c.before, c.if1.false)
+long : (c : tie.Else-a-words) → words 1 ≤ length c.args.a.now
+long c = omega (arith, one-needs c.before, c.if-a-words.false)
 
-links-requires : tie.Need-links-requires
-links-requires c κs = omega (arith, long c, book_in_words 1)
+links-l-requires : tie.Need-links-l-requires
+links-l-requires c κs = omega (arith, long c, book_in_words 1)
 
-returns-2 : tie.Need-returns-2
-returns-2 c =
+returns-then-l-lt1 : tie.Need-returns-then-l-lt1
+returns-then-l-lt1 c =
     let one = c.before.before in
-    no_link one.before.before.before.before.args.a.now (long one) (omega (arith, c.before.links.ensures, c.if2.true))
+    no_link one.args.a.now (long one) (omega (arith, c.links-l.ensures, c.if-l-lt1.true))
 
-returns-3 : tie.Need-returns-3
-returns-3 c =
+returns-then-l : tie.Need-returns-then-l
+returns-then-l c =
     let one = c.before.before.before in
-    many_links one.before.before.before.before.args.a.now (long one) (omega (arith, c.before.before.links.ensures, c.if3.true))
+    many_links one.args.a.now (long one) (omega (arith, c.links-l.ensures, c.if-l.true))
 
 at-requires-2 : tie.Need-at-requires-2
 at-requires-2 c κs = search rules
@@ -47,40 +47,40 @@ words-requires-2 : tie.Need-words-requires-2
 words-requires-2 c κs = search rules
 
 -- what its links need
-links-need : (c : tie.After-words2) → let read = c.before.before.before.before in c.words2.result ≡ words (links_in read.before.before.before.before.before.args.a.now)
-links-need c = c.words2.ensures ∙ ap words (c.before.at2.ensures ∙ c.before.before.before.before.links.ensures)
+links-need : (c : tie.After-words-2) → let read = c.before.before.before.before in c.words-2.result ≡ words (links_in read.args.a.now)
+links-need c = c.words-2.ensures ∙ ap words (c.at-2.ensures ∙ c.links-l.ensures)
 
-returns-4 : tie.Need-returns-4
-returns-4 c =
+returns-then-a-words-2 : tie.Need-returns-then-a-words-2
+returns-then-a-words-2 c =
     let last = c.before.before.before in
     let read = last.before.before in
     let one = read.before in
-    short_for_links one.before.before.before.before.args.a.now (long one)
-    (omega (arith, read.links.ensures, last.before.if2.false))
-    (omega (arith, read.links.ensures, last.if3.false))
-    (omega (arith, links-need c.before, c.if4.true))
+    short_for_links one.args.a.now (long one)
+    (omega (arith, read.links-l.ensures, last.if-l-lt1.false))
+    (omega (arith, read.links-l.ensures, last.if-l.false))
+    (omega (arith, links-need c.before, c.if-a-words-2.true))
 
-returns-5 : tie.Need-returns-5
-returns-5 c =
+returns : tie.Need-returns
+returns c =
     let last = c.before.before.before in
     let read = last.before.before in
     let one = read.before in
-    long_enough one.before.before.before.before.args.a.now (long one)
-    (omega (arith, read.links.ensures, last.before.if2.false))
-    (omega (arith, read.links.ensures, last.if3.false))
-    (omega (arith, links-need c.before, c.if4.false))
+    long_enough one.args.a.now (long one)
+    (omega (arith, read.links-l.ensures, last.if-l-lt1.false))
+    (omega (arith, read.links-l.ensures, last.if-l.false))
+    (omega (arith, links-need c.before, c.if-a-words-2.false))
 
-pub array-checked-spec : {M : Type 1} → statement M
-array-checked-spec =
+pub array_checked_spec : {M : Type 1} → statement M
+array_checked_spec =
     tie.close
     (tie.spec
     at-requires
     words-requires
-    returns
-    links-requires
-    returns-2
-    returns-3
+    returns-then-a-words
+    links-l-requires
+    returns-then-l-lt1
+    returns-then-l
     at-requires-2
     words-requires-2
-    returns-4
-    returns-5)
+    returns-then-a-words-2
+    returns)

@@ -11,67 +11,67 @@ use borrow.Author.Rules.{rules}
 use Rattle.queue.proofs.audit.Statement.{statement}
 use Rattle.queue.proofs.audit.Tie as tie
 
-checked-requires : tie.Need-checked-requires
-checked-requires c κs = search rules
+checked-found-requires : tie.Need-checked-found-requires
+checked-found-requires c κs = search rules
 
-number-of-requires : tie.Need-number-of-requires
-number-of-requires c κs = search rules
+number_of-requires : tie.Need-number_of-requires
+number_of-requires c κs = search rules
 
 refusal-requires : tie.Need-refusal-requires
 refusal-requires c κs = search rules
 
-returns : tie.Need-returns
-returns c =
-    let ws = c.before.before.before.before.before.args.a.now in
+returns-then-number_of-ne0 : tie.Need-returns-then-number_of-ne0
+returns-then-number_of-ne0 c =
+    let ws = c.args.a.now in
     let e = c.refusal.ensures in
-    told ws ws (audit (lent_of ws)) c.before.before.before.checked.result.answer _ _ _ _ e.0 e.1.0 e.1.1.0 e.1.1.1
-    (audit_refused ws c.before.before.before.checked.result.answer c.before.before.before.checked.ensures.0 (λ e. c.before.if1.true (c.before.before.number-of.ensures ∙ e)))
+    told ws ws (audit (lent_of ws)) c.checked-found.result.answer _ _ _ _ e.0 e.1.0 e.1.1.0 e.1.1.1
+    (audit_refused ws c.checked-found.result.answer c.checked-found.ensures.0 (λ e. c.if-number_of-ne0.true (c.number_of.ensures ∙ e)))
 
 -- where no check fails
-none : (c : tie.Else1) → number_of c.before.before.checked.result.answer ≡ 0
-none c = sym c.before.number-of.ensures ∙ c.if1.false
+none : (c : tie.Else-number_of-ne0) → number_of c.checked-found.result.answer ≡ 0
+none c = sym c.number_of.ensures ∙ c.if-number_of-ne0.false
 
-abbrev array : tie.Else1 → List ℕ
-array c = c.before.before.before.before.args.a.now
+abbrev array : tie.Else-number_of-ne0 → List ℕ
+array c = c.args.a.now
 
-rule-requires : tie.Need-rule-requires
-rule-requires c κs = search rules
+rule-rule-requires : tie.Need-rule-rule-requires
+rule-rule-requires c κs = search rules
 
-in-order-requires : tie.Need-in-order-requires
-in-order-requires c κs =
+in_order-requires : tie.Need-in_order-requires
+in_order-requires c κs =
     let el = c.before in
-    let x = el.before.before.checked in
+    let x = el.checked-found in
     held_inside (array el) x.result.answer x.ensures.0 (none el)
 
-returns-2 : tie.Need-returns-2
-returns-2 c =
+returns-then-in_order : tie.Need-returns-then-in_order
+returns-then-in_order c =
     let ru = c.before.before in
     let el = ru.before in
-    let x = el.before.before.checked in
-    audit_called (array el) x.result.answer x.ensures.0 (none el) ru.rule.ensures _ c.before.in_order.ensures c.if2.true
+    let x = el.checked-found in
+    audit_called (array el) x.result.answer x.ensures.0 (none el) ru.rule-rule.ensures _ c.in_order.ensures c.if-in_order.true
 
 refusal-requires-2 : tie.Need-refusal-requires-2
 refusal-requires-2 c κs = search rules
 
-returns-3 : tie.Need-returns-3
-returns-3 c =
+returns : tie.Need-returns
+returns c =
     let io = c.before.before in
     let el = io.before.before in
-    let x = el.before.before.checked in
-    let e = c.refusal2.ensures in
+    let x = el.checked-found in
+    let e = c.refusal-2.ensures in
     told (array el) (array el) (audit (lent_of (array el))) OrderBroken _ _ _ _ e.0 e.1.0 e.1.1.0 e.1.1.1
-    (order_broken (array el) x.result.answer x.ensures.0 (none el) io.before.rule.ensures _ io.in_order.ensures c.before.if2.false)
+    (order_broken (array el) x.result.answer x.ensures.0 (none el) io.rule-rule.ensures _ io.in_order.ensures c.if-in_order.false)
 
-pub audit-spec : {M : Type 1} → statement M
-audit-spec =
+pub audit_spec : {M : Type 1} → statement M
+audit_spec =
     tie.close
     (tie.spec
-    checked-requires
-    number-of-requires
+    checked-found-requires
+    number_of-requires
     refusal-requires
-    returns
-    rule-requires
-    in-order-requires
-    returns-2
+    returns-then-number_of-ne0
+    rule-rule-requires
+    in_order-requires
+    returns-then-in_order
     refusal-requires-2
-    returns-3)
+    returns)

@@ -8,43 +8,43 @@ use Rattle.queue.proofs.checked.Statement.{statement}
 use Rattle.queue.proofs.checked.Tie as tie
 
 -- no check of the array fails
-none : (c : tie.Else1) → number_of c.before.before.array-checked.result ≡ 0
-none c = sym c.before.number-of.ensures ∙ c.if1.false
+none : (c : tie.Else-number_of-ne0) → number_of c.array_checked-found.result ≡ 0
+none c = sym c.number_of.ensures ∙ c.if-number_of-ne0.false
 
-array-checked-requires : tie.Need-array-checked-requires
-array-checked-requires c κs = search rules
+array_checked-found-requires : tie.Need-array_checked-found-requires
+array_checked-found-requires c κs = search rules
 
-number-of-requires : tie.Need-number-of-requires
-number-of-requires c κs = search rules
+number_of-requires : tie.Need-number_of-requires
+number_of-requires c κs = search rules
+
+returns-then-number_of-ne0 : tie.Need-returns-then-number_of-ne0
+returns-then-number_of-ne0 c =
+    let no = c.before in
+    (array_fails _ _ no.array_checked-found.ensures _ (λ e. c.if-number_of-ne0.true (no.number_of.ensures ∙ e)), λ e. absurd (c.if-number_of-ne0.true (no.number_of.ensures ∙ e)))
+
+weighed-held-requires : tie.Need-weighed-held-requires
+weighed-held-requires c κs = has_book _ _ c.array_checked-found.ensures (none c)
+
+returns-then-held-lt-BROKEN : tie.Need-returns-then-held-lt-BROKEN
+returns-then-held-lt-BROKEN c =
+    let we = c.before in
+    let array = we.array_checked-found.ensures in (
+      book_right _ _ array (none we.before) (below_broken _ _ we.weighed-held.ensures c.if-held-lt-BROKEN.true),
+      λ e. book_held _ _ array (none we.before) _ we.weighed-held.ensures c.if-held-lt-BROKEN.true,
+    )
 
 returns : tie.Need-returns
 returns c =
-    let no = c.before in
-    (array_fails _ _ no.before.array-checked.ensures _ (λ e. c.if1.true (no.number-of.ensures ∙ e)), λ e. absurd (c.if1.true (no.number-of.ensures ∙ e)))
-
-weighed-requires : tie.Need-weighed-requires
-weighed-requires c κs = has_book _ _ c.before.before.array-checked.ensures (none c)
-
-returns-2 : tie.Need-returns-2
-returns-2 c =
     let we = c.before in
-    let array = we.before.before.before.array-checked.ensures in (
-      book_right _ _ array (none we.before) (below_broken _ _ we.weighed.ensures c.if2.true),
-      λ e. book_held _ _ array (none we.before) _ we.weighed.ensures c.if2.true,
-    )
+    (book_wrong _ _ we.array_checked-found.ensures (none we.before) (not_below _ _ we.weighed-held.ensures c.if-held-lt-BROKEN.false), λ e. absurd (broken_refuses e))
 
-returns-3 : tie.Need-returns-3
-returns-3 c =
-    let we = c.before in
-    (book_wrong _ _ we.before.before.before.array-checked.ensures (none we.before) (not_below _ _ we.weighed.ensures c.if2.false), λ e. absurd (broken_refuses e))
-
-pub checked-spec : {M : Type 1} → statement M
-checked-spec =
+pub checked_spec : {M : Type 1} → statement M
+checked_spec =
     tie.close
     (tie.spec
-    array-checked-requires
-    number-of-requires
-    returns
-    weighed-requires
-    returns-2
-    returns-3)
+    array_checked-found-requires
+    number_of-requires
+    returns-then-number_of-ne0
+    weighed-held-requires
+    returns-then-held-lt-BROKEN
+    returns)

@@ -6,8 +6,8 @@ use Rattle.queue.proofs.refusal.Tie as tie
 returns : tie.Need-returns
 returns c = (refl, (refl, (refl, refl)))
 
-pub refusal-spec : {M : Type 1} → statement M
-refusal-spec =
+pub refusal_spec : {M : Type 1} → statement M
+refusal_spec =
     tie.close
     (tie.spec
     returns)

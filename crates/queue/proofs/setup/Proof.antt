@@ -14,22 +14,22 @@ use Rattle.queue.proofs.setup.Tie as tie
 refusal-requires : tie.Need-refusal-requires
 refusal-requires c κs = search rules
 
-returns : tie.Need-returns
-returns c =
-    let ws = c.before.before.before.args.a.now in
-    let l = c.before.before.before.args.links in
+returns-then-links-lt1 : tie.Need-returns-then-links-lt1
+returns-then-links-lt1 c =
+    let ws = c.args.a.now in
+    let l = c.args.links in
     let e = c.refusal.ensures in
-    (told ws ws (setup l (lent_of ws)) NoSuchLinks _ _ _ _ e.0 e.1.0 e.1.1.0 e.1.1.1 (too_few ws l c.before.if1.true), λ p h. refl)
+    (told ws ws (setup l (lent_of ws)) NoSuchLinks _ _ _ _ e.0 e.1.0 e.1.1.0 e.1.1.1 (too_few ws l c.if-links-lt1.true), λ p h. refl)
 
-refusal-requires-2 : tie.Need-refusal-requires-2
-refusal-requires-2 c κs = search rules
+refusal-requires-then-links : tie.Need-refusal-requires-then-links
+refusal-requires-then-links c κs = search rules
 
-returns-2 : tie.Need-returns-2
-returns-2 c =
-    let ws = c.before.before.before.before.args.a.now in
-    let l = c.before.before.before.before.args.links in
-    let e = c.refusal2.ensures in
-    (told ws ws (setup l (lent_of ws)) NoSuchLinks _ _ _ _ e.0 e.1.0 e.1.1.0 e.1.1.1 (too_many ws l c.before.if2.true), λ p h. refl)
+returns-then-links : tie.Need-returns-then-links
+returns-then-links c =
+    let ws = c.args.a.now in
+    let l = c.args.links in
+    let e = c.refusal-then-links.ensures in
+    (told ws ws (setup l (lent_of ws)) NoSuchLinks _ _ _ _ e.0 e.1.0 e.1.1.0 e.1.1.1 (too_many ws l c.if-links.true), λ p h. refl)
 
 at-requires : tie.Need-at-requires
 at-requires c κs = search rules
@@ -37,43 +37,43 @@ at-requires c κs = search rules
 words-requires : tie.Need-words-requires
 words-requires c κs = search rules
 
-refusal-requires-3 : tie.Need-refusal-requires-3
-refusal-requires-3 c κs = search rules
+refusal-requires-then-a-words : tie.Need-refusal-requires-then-a-words
+refusal-requires-then-a-words c κs = search rules
 
-returns-3 : tie.Need-returns-3
-returns-3 c =
-    let need : c.before.before.words.result ≡ words c.before.before.before.before.before.before.before.args.links = c.before.before.words.ensures ∙ ap words c.before.before.before.at.ensures in
-    let ws = c.before.before.before.before.before.before.before.args.a.now in
-    let l = c.before.before.before.before.before.before.before.args.links in
-    let e = c.refusal3.ensures in
-    (told ws ws (setup l (lent_of ws)) ArrayShort _ _ _ _ e.0 e.1.0 e.1.1.0 e.1.1.1 (too_short ws l (record { low = omega (arith, c.before.before.before.before.before.if1.false); high = omega (arith, c.before.before.before.before.if2.false) }) (omega (arith, c.before.if3.true))), λ p h. refl)
+returns-then-a-words : tie.Need-returns-then-a-words
+returns-then-a-words c =
+    let need : c.words.result ≡ words c.args.links = c.words.ensures ∙ ap words c.at.ensures in
+    let ws = c.args.a.now in
+    let l = c.args.links in
+    let e = c.refusal-then-a-words.ensures in
+    (told ws ws (setup l (lent_of ws)) ArrayShort _ _ _ _ e.0 e.1.0 e.1.1.0 e.1.1.1 (too_short ws l (record { low = omega (arith, c.if-links-lt1.false); high = omega (arith, c.if-links.false) }) (omega (arith, c.if-a-words.true))), λ p h. refl)
 
 begin-requires : tie.Need-begin-requires
 begin-requires c κs =
-    let need : c.before.before.words.result ≡ words c.before.before.before.before.before.before.before.args.links = c.before.before.words.ensures ∙ ap words c.before.before.before.at.ensures in
-    record { link = record { low = omega (arith, c.before.before.before.before.before.if1.false); high = omega (arith, c.before.before.before.before.if2.false) }; enough = omega (arith, c.before.if3.false) }
+    let need : c.words.result ≡ words c.args.links = c.words.ensures ∙ ap words c.at.ensures in
+    record { link = record { low = omega (arith, c.if-links-lt1.false); high = omega (arith, c.if-links.false) }; enough = omega (arith, c.if-a-words.false) }
 
-same_length : tie.Need-same-length
-same_length c = search rules
+shape_of-a : tie.Need-shape_of-a
+shape_of-a c = search rules
 
-returns-4 : tie.Need-returns-4
-returns-4 c =
-    let need : c.before.before.before.before.before.words.result ≡ words c.before.before.before.before.before.before.before.before.before.before.args.links = c.before.before.before.before.before.words.ensures ∙ ap words c.before.before.before.before.before.before.at.ensures in
-    let link : LinkNumber c.before.before.before.before.before.before.before.before.before.before.args.links = record { low = omega (arith, c.before.before.before.before.before.before.before.before.if1.false); high = omega (arith, c.before.before.before.before.before.before.before.if2.false) } in
-    (setup_called c.before.before.before.before.before.before.before.before.before.before.args.a.now c.before.before.before.before.before.before.before.before.before.before.args.links _ record { link = record { low = omega (arith, c.before.before.before.before.before.before.before.before.if1.false); high = omega (arith, c.before.before.before.before.before.before.before.if2.false) }; enough = omega (arith, c.before.before.before.before.if3.false) } c.before.before.begin.ensures, slots_kept _ _ c.before.before.before.before.before.before.before.before.before.before.args.links link c.before.before.begin.ensures)
+returns : tie.Need-returns
+returns c =
+    let need : c.words.result ≡ words c.args.links = c.words.ensures ∙ ap words c.at.ensures in
+    let link : LinkNumber c.args.links = record { low = omega (arith, c.if-links-lt1.false); high = omega (arith, c.if-links.false) } in
+    (setup_called c.args.a.now c.args.links _ record { link = record { low = omega (arith, c.if-links-lt1.false); high = omega (arith, c.if-links.false) }; enough = omega (arith, c.if-a-words.false) } c.begin.ensures, slots_kept _ _ c.args.links link c.begin.ensures)
 
-pub setup-spec : {M : Type 1} → statement M
-setup-spec =
+pub setup_spec : {M : Type 1} → statement M
+setup_spec =
     tie.close
     (tie.spec
     refusal-requires
-    returns
-    refusal-requires-2
-    returns-2
+    returns-then-links-lt1
+    refusal-requires-then-links
+    returns-then-links
     at-requires
     words-requires
-    refusal-requires-3
-    returns-3
+    refusal-requires-then-a-words
+    returns-then-a-words
     begin-requires
-    same_length
-    returns-4)
+    shape_of-a
+    returns)

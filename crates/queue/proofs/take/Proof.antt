@@ -1,6 +1,5 @@
 -- `take` hands out what the rules' take does, or gives the first failing check.
-use mathlib.Core.Path.{◌≡◌, sym, ◌∙◌}
-use Rattle.rules.specs.Answers.{number_of}
+use mathlib.Core.Path.{sym, ◌∙◌}
 use Rattle.rules.specs.Calls.{take}
 use Rattle.buffers.specs.Format.{lent_of}
 use Rattle.queue.proofs.CallLaws.{told, take_refused, take_some_words, may_can, take_called}
@@ -8,74 +7,52 @@ use borrow.Author.Rules.{rules}
 use Rattle.queue.proofs.take.Statement.{statement}
 use Rattle.queue.proofs.take.Tie as tie
 
-checked-for-take-requires : tie.Need-checked-for-take-requires
-checked-for-take-requires c κs = search rules
+checked_for_take-found-requires : tie.Need-checked_for_take-found-requires
+checked_for_take-found-requires c κs = search rules
 
-number-of-requires : tie.Need-number-of-requires
-number-of-requires c κs = search rules
+number_of-requires : tie.Need-number_of-requires
+number_of-requires c κs = search rules
 
 refusal-requires : tie.Need-refusal-requires
 refusal-requires c κs = search rules
 
-same_length : tie.Need-same-length
-same_length c = search rules
+shape_of-a-then-number_of-ne0 : tie.Need-shape_of-a-then-number_of-ne0
+shape_of-a-then-number_of-ne0 c = search rules
+
+returns-then-number_of-ne0 : tie.Need-returns-then-number_of-ne0
+returns-then-number_of-ne0 c =
+    let x = c.checked_for_take-found in
+    let ws = c.args.a.now in
+    let e = c.refusal.ensures in
+    told ws ws (take (lent_of ws)) x.result _ _ _ _ e.0 e.1.0 e.1.1.0 e.1.1.1 (take_refused ws x.result x.ensures (λ e. c.if-number_of-ne0.true (c.number_of.ensures ∙ e)))
+
+rule-rule-requires : tie.Need-rule-rule-requires
+rule-rule-requires c κs = search rules
+
+links-links-requires : tie.Need-links-links-requires
+links-links-requires c κs = take_some_words c.args.a.now c.checked_for_take-found.result c.checked_for_take-found.ensures (sym c.number_of.ensures ∙ c.if-number_of-ne0.false)
+
+take_one-t-requires : tie.Need-take_one-t-requires
+take_one-t-requires c κs = may_can c.args.a.now c.checked_for_take-found.result c.checked_for_take-found.ensures (sym c.number_of.ensures ∙ c.if-number_of-ne0.false) _ c.links-links.ensures
+
+shape_of-a : tie.Need-shape_of-a
+shape_of-a c = search rules
 
 returns : tie.Need-returns
 returns c =
-    let el = c.before in
-    let no = el.before in
-    let x = no.before.checked-for-take in
-    let ws = no.before.before.before.before.args.a.now in
-    let e = c.refusal.ensures in
-    told ws ws (take (lent_of ws)) x.result _ _ _ _ e.0 e.1.0 e.1.1.0 e.1.1.1 (take_refused ws x.result x.ensures (λ e. el.if1.true (no.number-of.ensures ∙ e)))
-
--- where no check fails
-none : (c : tie.Else1) → number_of c.before.before.checked-for-take.result ≡ 0
-none c = sym c.before.number-of.ensures ∙ c.if1.false
-
-rule-requires : tie.Need-rule-requires
-rule-requires c κs = search rules
-
-links-requires : tie.Need-links-requires
-links-requires c κs =
-    let el = c.before.before.before in
-    let x = el.before.before in
-    let ws = x.before.before.before.args.a.now in
-    take_some_words ws x.checked-for-take.result x.checked-for-take.ensures (none el)
-
-take-one-requires : tie.Need-take-one-requires
-take-one-requires c κs =
-    let li = c.before in
-    let ru = li.before.before in
-    let el = ru.before.before in
-    let x = el.before.before in
-    let ws = x.before.before.before.args.a.now in
-    may_can ws x.checked-for-take.result x.checked-for-take.ensures (none el) _ li.links.ensures
-
-same-length-2 : tie.Need-same-length-2
-same-length-2 c = search rules
-
-returns-2 : tie.Need-returns-2
-returns-2 c =
-    let ta = c.before.before in
-    let li = ta.before.before in
-    let ru = li.before.before in
-    let el = ru.before.before in
-    let x = el.before.before in
-    let ws = x.before.before.before.args.a.now in
-    take_called ws x.checked-for-take.result x.checked-for-take.ensures (none el) _ li.links.ensures ru.rule.ensures _ _ _ _ ta.take-one.ensures
+    take_called c.args.a.now c.checked_for_take-found.result c.checked_for_take-found.ensures (sym c.number_of.ensures ∙ c.if-number_of-ne0.false) _ c.links-links.ensures c.rule-rule.ensures _ _ _ _ c.take_one-t.ensures
 
 pub take_spec : {M : Type 1} → statement M
 take_spec =
     tie.close
     (tie.spec
-    checked-for-take-requires
-    number-of-requires
+    checked_for_take-found-requires
+    number_of-requires
     refusal-requires
-    same_length
-    returns
-    rule-requires
-    links-requires
-    take-one-requires
-    same-length-2
-    returns-2)
+    shape_of-a-then-number_of-ne0
+    returns-then-number_of-ne0
+    rule-rule-requires
+    links-links-requires
+    take_one-t-requires
+    shape_of-a
+    returns)

@@ -4,43 +4,43 @@ use Rattle.sessions.proofs.answer.Statement.{statement}
 use Rattle.sessions.proofs.answer.Tie as tie
 use Rattle.sessions.proofs.RunLaws.{served_short, served_one}
 
+returns-then-out-lt-LINE : tie.Need-returns-then-out-lt-LINE
+returns-then-out-lt-LINE c = served_short _ _ _ _ _ (omega arith)
+
+perform_line-done-requires : tie.Need-perform_line-done-requires
+perform_line-done-requires c κs = search rules
+
+number_of-number-requires : tie.Need-number_of-number-requires
+number_of-number-requires c κs = search rules
+
+overflow_cast-steps : tie.Need-overflow_cast-steps
+overflow_cast-steps c = search rules
+
+answer_line-requires : tie.Need-answer_line-requires
+answer_line-requires c κs = search rules
+
+shape_of-a : tie.Need-shape_of-a
+shape_of-a c = search rules
+
+shape_of-work : tie.Need-shape_of-work
+shape_of-work c = search rules
+
+shape_of-out : tie.Need-shape_of-out
+shape_of-out c = search rules
+
 returns : tie.Need-returns
-returns c = served_short _ _ _ _ _ (omega arith)
+returns c = served_one _ _ _ _ _ _ _ _ _ _ _ _ _ _ (omega arith) c.perform_line-done.ensures.0 c.perform_line-done.ensures.1 c.number_of-number.ensures c.answer_line.ensures
 
-perform-line-requires : tie.Need-perform-line-requires
-perform-line-requires c κs = search rules
-
-number-of-requires : tie.Need-number-of-requires
-number-of-requires c κs = search rules
-
-cast-steps : tie.Need-overflow-cast-steps
-cast-steps c = search rules
-
-answer-line-requires : tie.Need-answer-line-requires
-answer-line-requires c κs = search rules
-
-same_length : tie.Need-same-length
-same_length c = search rules
-
-same-length-2 : tie.Need-same-length-2
-same-length-2 c = search rules
-
-same-length-3 : tie.Need-same-length-3
-same-length-3 c = search rules
-
-returns-2 : tie.Need-returns-2
-returns-2 c = served_one _ _ _ _ _ _ _ _ _ _ _ _ _ _ (omega arith) c.before.before.before.before.before.before.before.before.before.before.perform-line.ensures.0 c.before.before.before.before.before.before.before.before.before.before.perform-line.ensures.1 c.before.before.before.before.before.number-of.ensures c.before.before.answer-line.ensures
-
-pub answer-spec : {M : Type 1} → statement M
-answer-spec =
+pub answer_spec : {M : Type 1} → statement M
+answer_spec =
     tie.close
     (tie.spec
-    returns
-    perform-line-requires
-    number-of-requires
-    cast-steps
-    answer-line-requires
-    same_length
-    same-length-2
-    same-length-3
-    returns-2)
+    returns-then-out-lt-LINE
+    perform_line-done-requires
+    number_of-number-requires
+    overflow_cast-steps
+    answer_line-requires
+    shape_of-a
+    shape_of-work
+    shape_of-out
+    returns)

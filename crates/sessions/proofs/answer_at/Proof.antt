@@ -4,71 +4,71 @@ use Rattle.sessions.proofs.answer_at.Statement.{statement}
 use Rattle.sessions.proofs.answer_at.Tie as tie
 use Rattle.sessions.proofs.RunLaws.{part_refused, part_count, part_served}
 
-add-end : tie.Need-overflow-add-end
-add-end c = search rules
+overflow_add-end : tie.Need-overflow_add-end
+overflow_add-end c = search rules
 
-sub-answer-ended : tie.Need-overflow-sub-answer-ended
-sub-answer-ended c = search rules
+slice_bounds-answer_ended-count : tie.Need-slice_bounds-answer_ended-count
+slice_bounds-answer_ended-count c = search rules
 
-part-answer-ended-start : tie.Need-slice-bounds-answer-ended-start
-part-answer-ended-start c = search rules
+slice_bounds-answer_ended-start : tie.Need-slice_bounds-answer_ended-start
+slice_bounds-answer_ended-start c = search rules
 
-part-answer-ended-end : tie.Need-slice-bounds-answer-ended-end
-part-answer-ended-end c = search rules
+slice_bounds-answer_ended-end : tie.Need-slice_bounds-answer_ended-end
+slice_bounds-answer_ended-end c = search rules
 
-answer-ended-requires : tie.Need-answer-ended-requires
-answer-ended-requires c κs = search rules
+answer_ended-requires : tie.Need-answer_ended-requires
+answer_ended-requires c κs = search rules
 
-enum-known-n : tie.Need-enum-known-n
-enum-known-n c = search rules
+enum_known-n : tie.Need-enum_known-n
+enum_known-n c = search rules
 
-add-result : tie.Need-overflow-add-result
-add-result c = omega (arith, part_count _ _ _ _ _ c.before.before.before.before.before.before.before.before.before.before.before.before.before.before.before.before.args.ended _ _ _ _ c.before.before.before.before.before.before.before.before.before.before.before.before.before.before.before.before.requires c.before.before.before.before.before.before.before.before.before.answer-ended.ensures _ c.before.n.given.1)
+overflow_add-result : tie.Need-overflow_add-result
+overflow_add-result c = omega (arith, part_count _ _ _ _ _ c.args.ended _ _ _ _ c.requires c.answer_ended.ensures _ c.in-Bytes.is)
 
-enum_told : tie.Need-enum-told
-enum_told c = search rules
+enum_told-1 : tie.Need-enum_told-1
+enum_told-1 c = search rules
 
-same_length : tie.Need-same-length
-same_length c = search rules
+shape_of-a-in-Bytes : tie.Need-shape_of-a-in-Bytes
+shape_of-a-in-Bytes c = search rules
 
-same-length-2 : tie.Need-same-length-2
-same-length-2 c = search rules
+shape_of-work-in-Bytes : tie.Need-shape_of-work-in-Bytes
+shape_of-work-in-Bytes c = search rules
 
-same-length-3 : tie.Need-same-length-3
-same-length-3 c = search rules
+shape_of-out-in-Bytes : tie.Need-shape_of-out-in-Bytes
+shape_of-out-in-Bytes c = search rules
 
-returns : tie.Need-returns
-returns c = part_served _ _ _ _ _ c.before.before.before.before.before.before.before.before.before.before.before.before.before.before.before.before.args.ended _ _ _ _ c.before.before.before.before.before.before.before.before.before.before.before.before.before.before.before.before.requires c.before.before.before.before.before.before.before.before.before.answer-ended.ensures _ c.before.n.given.1
+returns-in-Bytes : tie.Need-returns-in-Bytes
+returns-in-Bytes c = part_served _ _ _ _ _ c.args.ended _ _ _ _ c.requires c.answer_ended.ensures _ c.in-Bytes.is
 
-same-length-4 : tie.Need-same-length-4
-same-length-4 c = search rules
+shape_of-a-in-Refused : tie.Need-shape_of-a-in-Refused
+shape_of-a-in-Refused c = search rules
 
-same-length-5 : tie.Need-same-length-5
-same-length-5 c = search rules
+shape_of-work-in-Refused : tie.Need-shape_of-work-in-Refused
+shape_of-work-in-Refused c = search rules
 
-same-length-6 : tie.Need-same-length-6
-same-length-6 c = search rules
+shape_of-out-in-Refused : tie.Need-shape_of-out-in-Refused
+shape_of-out-in-Refused c = search rules
 
-returns-2 : tie.Need-returns-2
-returns-2 c = part_refused _ _ _ _ _ c.before.before.before.before.before.before.before.before.before.before.before.before.before.before.before.args.ended _ _ _ _ c.before.before.before.before.before.before.before.before.before.before.before.before.before.before.before.requires c.before.before.before.before.before.before.before.before.answer-ended.ensures c.enum_told.given.1
+returns-in-Refused : tie.Need-returns-in-Refused
+returns-in-Refused c = part_refused _ _ _ _ _ c.args.ended _ _ _ _ c.requires c.answer_ended.ensures c.in-Refused.is
 
-pub answer-at-spec : {M : Type 1} → statement M
-answer-at-spec =
+pub answer_at_spec : {M : Type 1} → statement M
+answer_at_spec =
     tie.close
     (tie.spec
-    add-end
-    sub-answer-ended
-    part-answer-ended-start
-    part-answer-ended-end
-    answer-ended-requires
-    enum-known-n
-    add-result
-    enum_told
-    same_length
-    same-length-2
-    same-length-3
-    returns
-    same-length-4
-    same-length-5
-    same-length-6
-    returns-2)
+    overflow_add-end
+    slice_bounds-answer_ended-count
+    slice_bounds-answer_ended-start
+    slice_bounds-answer_ended-end
+    answer_ended-requires
+    enum_known-n
+    overflow_add-result
+    enum_told-1
+    shape_of-a-in-Bytes
+    shape_of-work-in-Bytes
+    shape_of-out-in-Bytes
+    returns-in-Bytes
+    shape_of-a-in-Refused
+    shape_of-work-in-Refused
+    shape_of-out-in-Refused
+    returns-in-Refused)

@@ -1,42 +1,41 @@
-use native.Mathlib.Omega.{arith}
 use borrow.Author.Rules.{rules}
 use Rattle.sessions.proofs.answer_ended.Statement.{statement}
 use Rattle.sessions.proofs.answer_ended.Tie as tie
 use Rattle.sessions.proofs.RunLaws.{served_line, served_none}
 
-enum-known-ended : tie.Need-enum-known-ended
-enum-known-ended c = search rules
+enum_known-ended : tie.Need-enum_known-ended
+enum_known-ended c = search rules
 
 answer-requires : tie.Need-answer-requires
 answer-requires c κs = search rules
 
-enum_told : tie.Need-enum-told
-enum_told c = search rules
+enum_told-1 : tie.Need-enum_told-1
+enum_told-1 c = search rules
 
-same_length : tie.Need-same-length
-same_length c = search rules
+shape_of-a : tie.Need-shape_of-a
+shape_of-a c = search rules
 
-same-length-2 : tie.Need-same-length-2
-same-length-2 c = search rules
+shape_of-work : tie.Need-shape_of-work
+shape_of-work c = search rules
 
-same-length-3 : tie.Need-same-length-3
-same-length-3 c = search rules
+shape_of-out : tie.Need-shape_of-out
+shape_of-out c = search rules
 
-returns : tie.Need-returns
-returns c = served_line _ _ _ _ _ c.before.before.before.before.before.before.before.before.before.before.before.before.before.before.before.before.args.ended _ _ _ _ c.before.before.before.before.before.before.before.before.before.before.before.ended.given.1 c.before.before.before.before.before.before.answer.ensures
+returns-in-Line : tie.Need-returns-in-Line
+returns-in-Line c = served_line _ _ _ _ _ c.args.ended _ _ _ _ c.in-Line.is c.answer.ensures
 
-returns-2 : tie.Need-returns-2
-returns-2 c = served_none _ _ _ c.before.before.before.before.before.args.ended _ c.enum_told.given.1
+returns-in-Nothing : tie.Need-returns-in-Nothing
+returns-in-Nothing c = served_none _ _ _ c.args.ended _ c.in-Nothing.is
 
-pub answer-ended-spec : {M : Type 1} → statement M
-answer-ended-spec =
+pub answer_ended_spec : {M : Type 1} → statement M
+answer_ended_spec =
     tie.close
     (tie.spec
-    enum-known-ended
+    enum_known-ended
     answer-requires
-    enum_told
-    same_length
-    same-length-2
-    same-length-3
-    returns
-    returns-2)
+    enum_told-1
+    shape_of-a
+    shape_of-work
+    shape_of-out
+    returns-in-Line
+    returns-in-Nothing)

@@ -3,31 +3,31 @@ use borrow.Author.Rules.{rules}
 use Rattle.sessions.proofs.finish.Statement.{statement}
 use Rattle.sessions.proofs.finish.Tie as tie
 
-finish-requires : tie.Need-finish-requires
-finish-requires c κs = search rules
+finish-ended-requires : tie.Need-finish-ended-requires
+finish-ended-requires c κs = search rules
 
-answer-ended-requires : tie.Need-answer-ended-requires
-answer-ended-requires c κs = search rules
+answer_ended-requires : tie.Need-answer_ended-requires
+answer_ended-requires c κs = search rules
 
-same_length : tie.Need-same-length
-same_length c = search rules
+shape_of-a : tie.Need-shape_of-a
+shape_of-a c = search rules
 
-same-length-2 : tie.Need-same-length-2
-same-length-2 c = search rules
+shape_of-work : tie.Need-shape_of-work
+shape_of-work c = search rules
 
-same-length-3 : tie.Need-same-length-3
-same-length-3 c = search rules
+shape_of-out : tie.Need-shape_of-out
+shape_of-out c = search rules
 
 returns : tie.Need-returns
-returns c = served_last _ _ _ _ _ c.before.before.before.before.before.before.before.before.before.before.finish.result _ _ _ _ c.before.before.before.before.before.before.before.before.before.before.finish.ensures c.before.before.before.before.before.before.answer-ended.ensures
+returns c = served_last _ _ _ _ _ c.finish-ended.result _ _ _ _ c.finish-ended.ensures c.answer_ended.ensures
 
 pub finish_spec : {M : Type 1} → statement M
 finish_spec =
     tie.close
     (tie.spec
-    finish-requires
-    answer-ended-requires
-    same_length
-    same-length-2
-    same-length-3
+    finish-ended-requires
+    answer_ended-requires
+    shape_of-a
+    shape_of-work
+    shape_of-out
     returns)

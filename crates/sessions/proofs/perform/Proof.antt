@@ -4,133 +4,133 @@ use Rattle.sessions.proofs.perform.Statement.{statement}
 use Rattle.sessions.proofs.perform.Tie as tie
 use Rattle.sessions.proofs.RunLaws.{setup_called, insert_called, take_called, look_called, held_called, audit_called, setup_left, insert_left, take_left, look_left, held_left, audit_left}
 
-enum-known-order : tie.Need-enum-known-order
-enum-known-order c = search rules
+enum_known-order : tie.Need-enum_known-order
+enum_known-order c = search rules
 
-cast-n : tie.Need-overflow-cast-n
-cast-n c = search rules
+overflow_cast-n : tie.Need-overflow_cast-n
+overflow_cast-n c = search rules
 
 setup-requires : tie.Need-setup-requires
 setup-requires c κs = search rules
 
-enum-known-order-2 : tie.Need-enum-known-order-2
-enum-known-order-2 c = search rules
+enum_known-order-in-Insert-1 : tie.Need-enum_known-order-in-Insert-1
+enum_known-order-in-Insert-1 c = search rules
 
-word-of-requires : tie.Need-word-of-requires
-word-of-requires c κs = search rules
+word_of-word-requires : tie.Need-word_of-word-requires
+word_of-word-requires c κs = search rules
 
 insert-requires : tie.Need-insert-requires
 insert-requires c κs = search rules
 
-enum_told : tie.Need-enum-told
-enum_told c = search rules
+enum_told-1 : tie.Need-enum_told-1
+enum_told-1 c = search rules
 
 take-requires : tie.Need-take-requires
 take-requires c κs = search rules
 
-enum-told-2 : tie.Need-enum-told-2
-enum-told-2 c = search rules
+enum_told-in-Look : tie.Need-enum_told-in-Look
+enum_told-in-Look c = search rules
 
 look-requires : tie.Need-look-requires
 look-requires c κs = search rules
 
-enum-told-3 : tie.Need-enum-told-3
-enum-told-3 c = search rules
+enum_told-in-Held : tie.Need-enum_told-in-Held
+enum_told-in-Held c = search rules
 
 held-requires : tie.Need-held-requires
 held-requires c κs = search rules
 
-enum-told-4 : tie.Need-enum-told-4
-enum-told-4 c = search rules
+enum_told-in-Audit : tie.Need-enum_told-in-Audit
+enum_told-in-Audit c = search rules
 
 audit-requires : tie.Need-audit-requires
 audit-requires c κs = search rules
 
-same_length : tie.Need-same-length
-same_length c = search rules
+shape_of-a-in-Setup : tie.Need-shape_of-a-in-Setup
+shape_of-a-in-Setup c = search rules
 
-returns : tie.Need-returns
-returns c = (
-  setup_called _ _ _ c.before.before.before.before.before.before.before.before.before.args.order _ _ _ _ _ c.before.before.before.before.before.order.given.1 c.before.before.setup.ensures.0,
-  setup_left _ _ _ _ c.before.before.before.before.before.before.before.before.before.args.order _ _ c.before.before.before.before.before.order.given.1 c.before.before.setup.ensures.1 refl,
+returns-in-Setup : tie.Need-returns-in-Setup
+returns-in-Setup c = (
+  setup_called _ _ _ c.args.order _ _ _ _ _ c.in-Setup.is c.setup.ensures.0,
+  setup_left _ _ _ _ c.args.order _ _ c.in-Setup.is c.setup.ensures.1 refl,
 )
 
-same-length-2 : tie.Need-same-length-2
-same-length-2 c = search rules
+shape_of-a-in-Insert : tie.Need-shape_of-a-in-Insert
+shape_of-a-in-Insert c = search rules
 
-same-length-3 : tie.Need-same-length-3
-same-length-3 c = search rules
+shape_of-work : tie.Need-shape_of-work
+shape_of-work c = search rules
 
-returns-2 : tie.Need-returns-2
-returns-2 c = (
-  insert_called _ _ _ c.before.before.before.before.before.before.before.before.before.before.before.before.before.args.order _ _ _ _ _ _ c.before.before.before.before.before.before.before.word_of.ensures c.before.before.before.before.before.before.before.before.before.order2.given.1 c.before.before.before.before.insert.ensures.0,
-  insert_left _ _ _ _ c.before.before.before.before.before.before.before.before.before.before.before.before.before.args.order _ _ c.before.before.before.before.before.before.before.before.before.order2.given.1 c.before.before.before.before.insert.ensures.1,
+returns-in-Insert : tie.Need-returns-in-Insert
+returns-in-Insert c = (
+  insert_called _ _ _ c.args.order _ _ _ _ _ _ c.word_of-word.ensures c.in-Insert.is c.insert.ensures.0,
+  insert_left _ _ _ _ c.args.order _ _ c.in-Insert.is c.insert.ensures.1,
 )
 
-same-length-4 : tie.Need-same-length-4
-same-length-4 c = search rules
+shape_of-a-in-Take : tie.Need-shape_of-a-in-Take
+shape_of-a-in-Take c = search rules
 
-returns-3 : tie.Need-returns-3
-returns-3 c = (
-  take_called _ _ _ c.before.before.before.before.before.before.before.before.args.order _ _ _ _ c.before.before.before.before.enum_told.given.1 c.before.before.take.ensures,
-  take_left _ _ _ _ c.before.before.before.before.before.before.before.before.args.order _ c.before.before.before.before.enum_told.given.1 refl,
+returns-in-Take : tie.Need-returns-in-Take
+returns-in-Take c = (
+  take_called _ _ _ c.args.order _ _ _ _ c.in-Take.is c.take.ensures,
+  take_left _ _ _ _ c.args.order _ c.in-Take.is refl,
 )
 
-same-length-5 : tie.Need-same-length-5
-same-length-5 c = search rules
+shape_of-a-in-Look : tie.Need-shape_of-a-in-Look
+shape_of-a-in-Look c = search rules
 
-returns-4 : tie.Need-returns-4
-returns-4 c = (
-  look_called _ _ _ c.before.before.before.before.before.before.before.before.args.order _ _ _ _ c.before.before.before.before.enum-told2.given.1 c.before.before.look.ensures,
-  look_left _ _ _ _ c.before.before.before.before.before.before.before.before.args.order _ c.before.before.before.before.enum-told2.given.1 refl,
+returns-in-Look : tie.Need-returns-in-Look
+returns-in-Look c = (
+  look_called _ _ _ c.args.order _ _ _ _ c.in-Look.is c.look.ensures,
+  look_left _ _ _ _ c.args.order _ c.in-Look.is refl,
 )
 
-same-length-6 : tie.Need-same-length-6
-same-length-6 c = search rules
+shape_of-a-in-Held : tie.Need-shape_of-a-in-Held
+shape_of-a-in-Held c = search rules
 
-returns-5 : tie.Need-returns-5
-returns-5 c = (
-  held_called _ _ _ c.before.before.before.before.before.before.args.order _ _ _ _ c.before.before.enum-told3.given.1 c.held.ensures,
-  held_left _ _ _ _ c.before.before.before.before.before.before.args.order _ c.before.before.enum-told3.given.1 refl refl,
+returns-in-Held : tie.Need-returns-in-Held
+returns-in-Held c = (
+  held_called _ _ _ c.args.order _ _ _ _ c.in-Held.is c.held.ensures,
+  held_left _ _ _ _ c.args.order _ c.in-Held.is refl refl,
 )
 
-same-length-7 : tie.Need-same-length-7
-same-length-7 c = search rules
+shape_of-a-in-Audit : tie.Need-shape_of-a-in-Audit
+shape_of-a-in-Audit c = search rules
 
-returns-6 : tie.Need-returns-6
-returns-6 c = (
-  audit_called _ _ _ c.before.before.before.before.before.before.args.order _ _ _ _ c.before.before.enum-told4.given.1 c.audit.ensures,
-  audit_left _ _ _ _ c.before.before.before.before.before.before.args.order _ c.before.before.enum-told4.given.1 refl refl,
+returns-in-Audit : tie.Need-returns-in-Audit
+returns-in-Audit c = (
+  audit_called _ _ _ c.args.order _ _ _ _ c.in-Audit.is c.audit.ensures,
+  audit_left _ _ _ _ c.args.order _ c.in-Audit.is refl refl,
 )
 
-pub perform-spec : {M : Type 1} → statement M
-perform-spec =
+pub perform_spec : {M : Type 1} → statement M
+perform_spec =
     tie.close
     (tie.spec
-    enum-known-order
-    cast-n
+    enum_known-order
+    overflow_cast-n
     setup-requires
-    enum-known-order-2
-    word-of-requires
+    enum_known-order-in-Insert-1
+    word_of-word-requires
     insert-requires
-    enum_told
+    enum_told-1
     take-requires
-    enum-told-2
+    enum_told-in-Look
     look-requires
-    enum-told-3
+    enum_told-in-Held
     held-requires
-    enum-told-4
+    enum_told-in-Audit
     audit-requires
-    same_length
-    returns
-    same-length-2
-    same-length-3
-    returns-2
-    same-length-4
-    returns-3
-    same-length-5
-    returns-4
-    same-length-6
-    returns-5
-    same-length-7
-    returns-6)
+    shape_of-a-in-Setup
+    returns-in-Setup
+    shape_of-a-in-Insert
+    shape_of-work
+    returns-in-Insert
+    shape_of-a-in-Take
+    returns-in-Take
+    shape_of-a-in-Look
+    returns-in-Look
+    shape_of-a-in-Held
+    returns-in-Held
+    shape_of-a-in-Audit
+    returns-in-Audit)

@@ -1,4 +1,4 @@
-use mathlib.Core.Path.{◌≡◌, refl, ap, sym, ◌∙◌}
+use mathlib.Core.Path.{◌≡◌, refl}
 use mathlib.Core.Logic.{inl, inr}
 use Prim.Native.Nat.{◌-◌}
 use native.Mathlib.Omega.{arith}
@@ -10,72 +10,72 @@ use Rattle.sessions.proofs.PieceLaws.{ran_starts, ran_further, ran_on}
 use Rattle.sessions.proofs.run_piece.Statement.{statement}
 use Rattle.sessions.proofs.run_piece.Tie as tie
 
-abbrev invariant-loop : tie.invariant-loop
-invariant-loop a₀ work₀ piece at out₀ so-far₀ i₀ written₀ a work out so_far i written =
+abbrev invariant-loop-i : tie.invariant-loop-i
+invariant-loop-i a₀ work₀ piece at out₀ so-far₀ i₀ written₀ a work out so_far i written =
     PieceRan (length work₀) a₀ a work₀ work (kept so-far₀) piece at out₀ out (kept so_far) i written × (length a ≡ length a₀) × (length work ≡ length work₀) × (length out ≡ length out₀)
 
-abbrev decreases-loop : tie.decreases-loop
-decreases-loop a₀ work₀ piece at out₀ so-far₀ i₀ written₀ a work out so_far i written = length piece - i
+abbrev decreases-loop-i : tie.decreases-loop-i
+decreases-loop-i a₀ work₀ piece at out₀ so-far₀ i₀ written₀ a work out so_far i written = length piece - i
 
-loop-holds : tie.Need-loop-init invariant-loop decreases-loop
-loop-holds c = (ran_starts _ _ _ _ _ _ _, refl, refl, refl)
+loop-i-init : tie.Need-loop-i-init invariant-loop-i decreases-loop-i
+loop-i-init c = (ran_starts _ _ _ _ _ _ _, refl, refl, refl)
 
-sub-if1 : tie.Need-overflow-sub-if1 invariant-loop decreases-loop
-sub-if1 c = omega (arith, c.before.loop.invariant.0.inside)
+overflow_sub-out : tie.Need-overflow_sub-out invariant-loop-i decreases-loop-i
+overflow_sub-out c = omega (arith, c.loop-i.invariant.0.inside)
 
-next-line-requires : tie.Need-next-line-requires invariant-loop decreases-loop
-next-line-requires c κs = search rules
+next_line-next-requires : tie.Need-next_line-next-requires invariant-loop-i decreases-loop-i
+next_line-next-requires c κs = search rules
 
-answer-at-requires : tie.Need-answer-at-requires invariant-loop decreases-loop
-answer-at-requires c κs = omega (arith, c.before.before.before.before.before.before.before.loop.invariant.0.inside)
+answer_at-written-requires : tie.Need-answer_at-written-requires invariant-loop-i decreases-loop-i
+answer_at-written-requires c κs = omega (arith, c.loop-i.invariant.0.inside)
 
-loop-less : tie.Need-loop-smaller invariant-loop decreases-loop
-loop-less c = omega (arith, ran_further _ _ _ c.before.before.before.before.before.before.before.before.before.before.before.next-line.result c.before.before.before.before.before.before.before.before.before.before.before.next-line.ensures (omega arith))
+loop-i-smaller : tie.Need-loop-i-smaller invariant-loop-i decreases-loop-i
+loop-i-smaller c = omega (arith, ran_further _ _ _ c.next_line-next.result c.next_line-next.ensures (omega arith))
 
-loop-again : tie.Need-loop-preserved invariant-loop decreases-loop
-loop-again c = (ran_on _ _ _ _ _ _ _ _ _ _ _ _ _ _ _ _ _ _ c.before.before.before.before.before.before.before.before.before.before.before.before.before.before.loop.invariant.0 c.before.before.before.before.before.before.before.before.before.before.before.next-line.result c.before.before.before.before.before.before.before.before.before.before.before.next-line.ensures c.before.before.before.before.before.before.before.before.before.before.before.before.before.before.loop.invariant.2 c.before.before.before.before.before.before.answer_at.ensures (omega arith) (omega (arith, c.before.before.before.before.before.before.before.before.before.before.before.before.before.before.loop.invariant.0.inside, c.before.before.before.before.before.before.before.before.before.before.before.before.before.before.loop.invariant.3)), omega arith, omega arith, omega arith)
+loop-i-preserved : tie.Need-loop-i-preserved invariant-loop-i decreases-loop-i
+loop-i-preserved c = (ran_on _ _ _ _ _ _ _ _ _ _ _ _ _ _ _ _ _ _ c.loop-i.invariant.0 c.next_line-next.result c.next_line-next.ensures c.loop-i.invariant.2 c.answer_at-written.ensures (omega arith) (omega (arith, c.loop-i.invariant.0.inside, c.loop-i.invariant.3)), omega arith, omega arith, omega arith)
 
-same_length : tie.Need-same-length invariant-loop decreases-loop
-same_length c = omega arith
+shape_of-a-after-loop-i : tie.Need-shape_of-a-after-loop-i invariant-loop-i decreases-loop-i
+shape_of-a-after-loop-i c = omega arith
 
-same-length-2 : tie.Need-same-length-2 invariant-loop decreases-loop
-same-length-2 c = omega arith
+shape_of-work-after-loop-i : tie.Need-shape_of-work-after-loop-i invariant-loop-i decreases-loop-i
+shape_of-work-after-loop-i c = omega arith
 
-same-length-3 : tie.Need-same-length-3 invariant-loop decreases-loop
-same-length-3 c = omega arith
+shape_of-out-after-loop-i : tie.Need-shape_of-out-after-loop-i invariant-loop-i decreases-loop-i
+shape_of-out-after-loop-i c = omega arith
 
-returns : tie.Need-returns invariant-loop decreases-loop
-returns c = (c.before.loop.invariant.0, inl (omega arith))
+returns-after-loop-i : tie.Need-returns-after-loop-i invariant-loop-i decreases-loop-i
+returns-after-loop-i c = (c.loop-i.invariant.0, inl (omega arith))
 
-same-length-4 : tie.Need-same-length-4 invariant-loop decreases-loop
-same-length-4 c = omega arith
+shape_of-a-then-out-written-lt-LINE : tie.Need-shape_of-a-then-out-written-lt-LINE invariant-loop-i decreases-loop-i
+shape_of-a-then-out-written-lt-LINE c = omega arith
 
-same-length-5 : tie.Need-same-length-5 invariant-loop decreases-loop
-same-length-5 c = omega arith
+shape_of-work-then-out-written-lt-LINE : tie.Need-shape_of-work-then-out-written-lt-LINE invariant-loop-i decreases-loop-i
+shape_of-work-then-out-written-lt-LINE c = omega arith
 
-same-length-6 : tie.Need-same-length-6 invariant-loop decreases-loop
-same-length-6 c = omega arith
+shape_of-out-then-out-written-lt-LINE : tie.Need-shape_of-out-then-out-written-lt-LINE invariant-loop-i decreases-loop-i
+shape_of-out-then-out-written-lt-LINE c = omega arith
 
-returns-2 : tie.Need-returns-2 invariant-loop decreases-loop
-returns-2 c = (c.before.before.loop.invariant.0, inr (omega (arith, c.before.before.loop.invariant.0.inside, c.before.before.loop.invariant.3)))
+returns-then-out-written-lt-LINE : tie.Need-returns-then-out-written-lt-LINE invariant-loop-i decreases-loop-i
+returns-then-out-written-lt-LINE c = (c.loop-i.invariant.0, inr (omega (arith, c.loop-i.invariant.0.inside, c.loop-i.invariant.3)))
 
-pub run-piece-spec : {M : Type 1} → statement M
-run-piece-spec =
+pub run_piece_spec : {M : Type 1} → statement M
+run_piece_spec =
     tie.close
     (tie.spec
-    invariant-loop
-    decreases-loop
-    loop-holds
-    sub-if1
-    next-line-requires
-    answer-at-requires
-    loop-less
-    loop-again
-    same_length
-    same-length-2
-    same-length-3
-    returns
-    same-length-4
-    same-length-5
-    same-length-6
-    returns-2)
+    invariant-loop-i
+    decreases-loop-i
+    loop-i-init
+    overflow_sub-out
+    next_line-next-requires
+    answer_at-written-requires
+    loop-i-smaller
+    loop-i-preserved
+    shape_of-a-after-loop-i
+    shape_of-work-after-loop-i
+    shape_of-out-after-loop-i
+    returns-after-loop-i
+    shape_of-a-then-out-written-lt-LINE
+    shape_of-work-then-out-written-lt-LINE
+    shape_of-out-then-out-written-lt-LINE
+    returns-then-out-written-lt-LINE)
