@@ -1,4 +1,6 @@
 // Orders as lines of capital hexadecimal, and the line that answers one.
+#![tactic(auto)]
+
 ghost use Rattle.std.specs.Prelude.{◌≡◌, true, ◌++◌, ◌%◌, length};
 ghost use Rattle.frames.specs.Answers.{read_back};
 ghost use Rattle.frames.specs.Digits.{value_of, digit_of, capital, number, digits, Field};
@@ -9,7 +11,7 @@ ghost use Rattle.frames.specs.Lines.{Laid};
 ghost use Rattle.frames.specs.AnswerLine.{answer_line};
 
 // A door byte above 2 is kept, for refusal 7.
-#[derive(Drop)]
+#[derive(Clone, Copy)]
 pub enum Door {
     Both,
     Left,
@@ -17,7 +19,7 @@ pub enum Door {
     Other(u8),
 }
 
-#[derive(Drop)]
+#[derive(Clone, Copy)]
 pub struct Entry {
     pub tick: u32,
     pub door: Door,
@@ -25,7 +27,7 @@ pub struct Entry {
 }
 
 // A setup holds its links.
-#[derive(Drop)]
+#[derive(Clone, Copy)]
 pub enum Order {
     Setup(u8),
     Insert(Entry),
@@ -36,14 +38,14 @@ pub enum Order {
 }
 
 // What a line is: an order, or answer 10.
-#[derive(Drop)]
+#[derive(Clone, Copy)]
 pub enum ReadFrame {
     Order(Order),
     NotAFrame,
 }
 
 // How many bytes were written, or answer 10.
-#[derive(Drop)]
+#[derive(Clone, Copy)]
 pub enum Written {
     Bytes(usize),
     Refused,

@@ -1,9 +1,9 @@
 -- A line that stands whole in a piece is read where it stands.
-use mathlib.Core.Path.{◌≡◌, refl, ap, sym, ◌∙◌, subst}
-use mathlib.Core.Bool.{Bool, true, false, cond}
+use mathlib.Core.Path.{◌≡◌, refl, ap, sym, ◌∙◌}
+use mathlib.Core.Bool.{true, false}
 use mathlib.Core.List.{List, [], ◌∷◌, ◌++◌, append_assoc, append-nil}
 use mathlib.Core.Logic.{inl, inr}
-use Prim.Native.Nat.{ℕ, zero, suc, ◌+◌, ◌-◌, ◌<◌, ◌≤◌}
+use Prim.Native.Nat.{ℕ, suc, ◌+◌, ◌-◌, ◌<◌, ◌≤◌}
 use native.Mathlib.Omega.{arith}
 use lib.Dec.{eqb}
 use lib.ListN.{length, take, drop, get_or, length-append, length-drop, take-append-drop, drop_of_length-le}
@@ -14,7 +14,7 @@ use Rattle.frames.specs.Frames.{read_of}
 use Rattle.frames.specs.declared.Order.{Order}
 use Rattle.frames.specs.declared.ReadFrame.{ReadFrame}
 use Rattle.lines.specs.Lines.{line_after, ended_by, plain, between, EndsAt, Stops}
-use Rattle.lines.specs.Cutter.{decisive, kept, feed_of, Step, next_of}
+use Rattle.lines.specs.Cutter.{decisive, kept, Step, next_of}
 use Rattle.lines.specs.Answers.{next_back}
 use Rattle.lines.specs.declared.Cutter.{Cutter}
 use Rattle.lines.specs.declared.Ended.TheVariants.{Line, Nothing}

@@ -1,4 +1,6 @@
 // Bytes cut into lines, each read as an order; the bytes may come in any pieces.
+#![tactic(auto)]
+
 ghost use Rattle.std.specs.Prelude.{◌≡◌, [], ◌∷◌, ◌++◌, ◌≤◌, length, drop};
 ghost use Rattle.frames.specs.Answers.{read_back};
 ghost use Rattle.frames.specs.Frames.{read_of};
@@ -12,27 +14,27 @@ const LINE_END: u8 = 10;
 const KEPT: usize = 19;
 
 // The first bytes of the line so far.
-#[derive(Drop)]
+#[derive(Clone, Copy)]
 pub struct Cutter {
     pub bytes: [u8; KEPT],
     pub len: usize,
 }
 
 // A line that ended, read as a frame.
-#[derive(Drop)]
+#[derive(Clone, Copy)]
 pub enum Ended {
     Line(frames::ReadFrame),
     Nothing,
 }
 
-#[derive(Drop)]
+#[derive(Clone, Copy)]
 pub struct Fed {
     pub cutter: Cutter,
     pub ended: Ended,
 }
 
 // at is the place behind the last byte that was read.
-#[derive(Drop)]
+#[derive(Clone, Copy)]
 pub struct Next {
     pub cutter: Cutter,
     pub at: usize,

@@ -1,4 +1,6 @@
 // Lines for people, laid into lent bytes: text, and numbers in decimal.
+#![tactic(auto)]
+
 ghost use Rattle.std.specs.Prelude.{◌≡◌, ◌+◌, ◌≤◌, length};
 ghost use Rattle.text.specs.Decimal.{places, digits, decimal, signed};
 ghost use Rattle.text.specs.Laid.{Laid};

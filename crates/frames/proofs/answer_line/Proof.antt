@@ -4,71 +4,71 @@ use borrow.Author.Rules.{rules}
 use Rattle.frames.proofs.answer_line.Statement.{statement}
 use Rattle.frames.proofs.answer_line.Tie as tie
 
-returns : tie.Need-returns
-returns c = answer_short _ _ _ _ (omega arith)
+returns-then-out-lt27 : tie.Need-returns-then-out-lt27
+returns-then-out-lt27 c = answer_short _ _ _ _ (omega arith)
 
-sub-put : tie.Need-overflow-sub-put
-sub-put c = search rules
+slice_bounds-put-count : tie.Need-slice_bounds-put-count
+slice_bounds-put-count c = search rules
 
-part-put-start : tie.Need-slice-bounds-put-start
-part-put-start c = search rules
+slice_bounds-put-start : tie.Need-slice_bounds-put-start
+slice_bounds-put-start c = search rules
 
-part-put-end : tie.Need-slice-bounds-put-end
-part-put-end c = search rules
+slice_bounds-put-end : tie.Need-slice_bounds-put-end
+slice_bounds-put-end c = search rules
 
 put-requires : tie.Need-put-requires
 put-requires c κs = search rules
 
-sub-put-2 : tie.Need-overflow-sub-put-2
-sub-put-2 c = search rules
+slice_bounds-put-count-2 : tie.Need-slice_bounds-put-count-2
+slice_bounds-put-count-2 c = search rules
 
-part-put-start-2 : tie.Need-slice-bounds-put-start-2
-part-put-start-2 c = search rules
+slice_bounds-put-start-2 : tie.Need-slice_bounds-put-start-2
+slice_bounds-put-start-2 c = search rules
 
-part-put-end-2 : tie.Need-slice-bounds-put-end-2
-part-put-end-2 c = search rules
+slice_bounds-put-end-2 : tie.Need-slice_bounds-put-end-2
+slice_bounds-put-end-2 c = search rules
 
 put-requires-2 : tie.Need-put-requires-2
 put-requires-2 c κs = search rules
 
-sub-put-3 : tie.Need-overflow-sub-put-3
-sub-put-3 c = search rules
+slice_bounds-put-count-3 : tie.Need-slice_bounds-put-count-3
+slice_bounds-put-count-3 c = search rules
 
-part-put-start-3 : tie.Need-slice-bounds-put-start-3
-part-put-start-3 c = search rules
+slice_bounds-put-start-3 : tie.Need-slice_bounds-put-start-3
+slice_bounds-put-start-3 c = search rules
 
-part-put-end-3 : tie.Need-slice-bounds-put-end-3
-part-put-end-3 c = search rules
+slice_bounds-put-end-3 : tie.Need-slice_bounds-put-end-3
+slice_bounds-put-end-3 c = search rules
 
 put-requires-3 : tie.Need-put-requires-3
 put-requires-3 c κs = search rules
 
-slice-write-out : tie.Need-slice-write-out
-slice-write-out c = search rules
+bounds-out-26 : tie.Need-bounds-out-26
+bounds-out-26 c = search rules
 
-same_length : tie.Need-same-length
-same_length c = answer_same _ _ _ c.before.before.before.before.before.before.before.before.before.before.before.before.before.before.args.out.now _ _ _ (omega arith) c.before.before.before.before.before.before.before.before.before.before.put.ensures c.before.before.before.before.before.before.put2.ensures c.before.before.put3.ensures
+shape_of-out : tie.Need-shape_of-out
+shape_of-out c = answer_same _ _ _ c.args.out.now _ _ _ (omega arith) c.put.ensures c.put-2.ensures c.put-3.ensures
 
-returns-2 : tie.Need-returns-2
-returns-2 c = answer_laid _ _ _ _ _ _ _ (omega arith) c.before.before.before.before.before.before.before.before.before.before.put.ensures c.before.before.before.before.before.before.put2.ensures c.before.before.put3.ensures
+returns : tie.Need-returns
+returns c = answer_laid _ _ _ _ _ _ _ (omega arith) c.put.ensures c.put-2.ensures c.put-3.ensures
 
-pub answer-line-spec : {M : Type 1} → statement M
-answer-line-spec =
+pub answer_line_spec : {M : Type 1} → statement M
+answer_line_spec =
     tie.close
     (tie.spec
-    returns
-    sub-put
-    part-put-start
-    part-put-end
+    returns-then-out-lt27
+    slice_bounds-put-count
+    slice_bounds-put-start
+    slice_bounds-put-end
     put-requires
-    sub-put-2
-    part-put-start-2
-    part-put-end-2
+    slice_bounds-put-count-2
+    slice_bounds-put-start-2
+    slice_bounds-put-end-2
     put-requires-2
-    sub-put-3
-    part-put-start-3
-    part-put-end-3
+    slice_bounds-put-count-3
+    slice_bounds-put-start-3
+    slice_bounds-put-end-3
     put-requires-3
-    slice-write-out
-    same_length
-    returns-2)
+    bounds-out-26
+    shape_of-out
+    returns)

@@ -5,47 +5,47 @@ use Rattle.frames.proofs.Loops.{Checking, checking_starts, checks_on, checks_not
 use Rattle.frames.proofs.capital.Statement.{statement}
 use Rattle.frames.proofs.capital.Tie as tie
 
-abbrev invariant-loop : tie.invariant-loop
-invariant-loop line i₀ i = Checking line i
+abbrev invariant-loop-i : tie.invariant-loop-i
+invariant-loop-i line i₀ i = Checking line i
 
-abbrev decreases-loop : tie.decreases-loop
-decreases-loop line i₀ i = length line - i
+abbrev decreases-loop-i : tie.decreases-loop-i
+decreases-loop-i line i₀ i = length line - i
 
-loop-holds : tie.Need-loop-init invariant-loop decreases-loop
-loop-holds c = checking_starts _
+loop-i-init : tie.Need-loop-i-init invariant-loop-i decreases-loop-i
+loop-i-init c = checking_starts _
 
-shared-slice-read-value : tie.Need-shared-slice-read-value invariant-loop decreases-loop
-shared-slice-read-value c = omega arith
+bounds-line-i : tie.Need-bounds-line-i invariant-loop-i decreases-loop-i
+bounds-line-i c = omega arith
 
-value-requires : tie.Need-value-requires invariant-loop decreases-loop
+value-requires : tie.Need-value-requires invariant-loop-i decreases-loop-i
 value-requires c κs = tt
 
-returns : tie.Need-returns invariant-loop decreases-loop
-returns c = checks_not _ _ c.before.before.before.before.loop.invariant (omega arith) _ c.before.value.ensures c.if1.true
+returns-then-value-ge16 : tie.Need-returns-then-value-ge16 invariant-loop-i decreases-loop-i
+returns-then-value-ge16 c = checks_not _ _ c.loop-i.invariant (omega arith) _ c.value.ensures c.if-value-ge16.true
 
-add-i : tie.Need-overflow-add-i invariant-loop decreases-loop
-add-i c = omega arith
+overflow_add-i : tie.Need-overflow_add-i invariant-loop-i decreases-loop-i
+overflow_add-i c = omega arith
 
-loop-less : tie.Need-loop-smaller invariant-loop decreases-loop
-loop-less c = omega arith
+loop-i-smaller : tie.Need-loop-i-smaller invariant-loop-i decreases-loop-i
+loop-i-smaller c = omega arith
 
-loop-again : tie.Need-loop-preserved invariant-loop decreases-loop
-loop-again c = checks_on _ _ c.before.before.before.before.loop.invariant (omega arith) _ c.before.value.ensures c.if1.false
+loop-i-preserved : tie.Need-loop-i-preserved invariant-loop-i decreases-loop-i
+loop-i-preserved c = checks_on _ _ c.loop-i.invariant (omega arith) _ c.value.ensures c.if-value-ge16.false
 
-returns-2 : tie.Need-returns-2 invariant-loop decreases-loop
-returns-2 c = checks_all _ _ c.before.loop.invariant c.loop-test.false
+returns : tie.Need-returns invariant-loop-i decreases-loop-i
+returns c = checks_all _ _ c.loop-i.invariant c.loop-i-test.false
 
-pub capital-spec : {M : Type 1} → statement M
-capital-spec =
+pub capital_spec : {M : Type 1} → statement M
+capital_spec =
     tie.close
     (tie.spec
-    invariant-loop
-    decreases-loop
-    loop-holds
-    shared-slice-read-value
+    invariant-loop-i
+    decreases-loop-i
+    loop-i-init
+    bounds-line-i
     value-requires
-    returns
-    add-i
-    loop-less
-    loop-again
-    returns-2)
+    returns-then-value-ge16
+    overflow_add-i
+    loop-i-smaller
+    loop-i-preserved
+    returns)

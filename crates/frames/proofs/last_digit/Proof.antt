@@ -4,22 +4,22 @@ use borrow.Author.Rules.{rules}
 use Rattle.frames.proofs.last_digit.Statement.{statement}
 use Rattle.frames.proofs.last_digit.Tie as tie
 
-cast-d : tie.Need-overflow-cast-d
-cast-d c = search rules
+overflow_cast-d : tie.Need-overflow_cast-d
+overflow_cast-d c = search rules
 
-add-result : tie.Need-overflow-add-result
-add-result c = search rules
+overflow_add-result : tie.Need-overflow_add-result
+overflow_add-result c = search rules
+
+returns-then-d-lt10 : tie.Need-returns-then-d-lt10
+unfolding digit_of
+returns-then-d-lt10 c = simp (lt-ltb _ _ c.if-d-lt10.true)
+
+overflow_add-result-2 : tie.Need-overflow_add-result-2
+overflow_add-result-2 c = search rules
 
 returns : tie.Need-returns
 unfolding digit_of
-returns c = simp (lt-ltb _ _ c.if1.true)
+returns c = simp (le-ltb _ _ c.if-d-lt10.false)
 
-add-result-2 : tie.Need-overflow-add-result-2
-add-result-2 c = search rules
-
-returns-2 : tie.Need-returns-2
-unfolding digit_of
-returns-2 c = simp (le-ltb _ _ c.if1.false)
-
-pub last-digit-spec : {M : Type 1} → statement M
-last-digit-spec = tie.close (tie.spec cast-d add-result returns add-result-2 returns-2)
+pub last_digit_spec : {M : Type 1} → statement M
+last_digit_spec = tie.close (tie.spec overflow_cast-d overflow_add-result returns-then-d-lt10 overflow_add-result-2 returns)

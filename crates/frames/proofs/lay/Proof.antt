@@ -4,63 +4,63 @@ use borrow.Author.Rules.{rules}
 use Rattle.frames.proofs.lay.Statement.{statement}
 use Rattle.frames.proofs.lay.Tie as tie
 
-returns : tie.Need-returns
-returns c = two_short _ _ _ _ (omega arith)
+returns-then-out-lt2 : tie.Need-returns-then-out-lt2
+returns-then-out-lt2 c = two_short _ _ _ _ (omega arith)
 
-sub-if2 : tie.Need-overflow-sub-if2
-sub-if2 c = search rules
+overflow_sub-out : tie.Need-overflow_sub-out
+overflow_sub-out c = search rules
 
-returns-2 : tie.Need-returns-2
-returns-2 c = two_short _ _ _ _ (omega arith)
+returns-then-out-n : tie.Need-returns-then-out-n
+returns-then-out-n c = two_short _ _ _ _ (omega arith)
 
-add-end : tie.Need-overflow-add-end
-add-end c = search rules
+overflow_add-end : tie.Need-overflow_add-end
+overflow_add-end c = search rules
 
-sub-put : tie.Need-overflow-sub-put
-sub-put c = search rules
+slice_bounds-put-count : tie.Need-slice_bounds-put-count
+slice_bounds-put-count c = search rules
 
-part-put-start : tie.Need-slice-bounds-put-start
-part-put-start c = search rules
+slice_bounds-put-start : tie.Need-slice_bounds-put-start
+slice_bounds-put-start c = search rules
 
-part-put-end : tie.Need-slice-bounds-put-end
-part-put-end c = search rules
+slice_bounds-put-end : tie.Need-slice_bounds-put-end
+slice_bounds-put-end c = search rules
 
 put-requires : tie.Need-put-requires
 put-requires c κs = search rules
 
-sub-put-2 : tie.Need-overflow-sub-put-2
-sub-put-2 c = search rules
+slice_bounds-put-count-2 : tie.Need-slice_bounds-put-count-2
+slice_bounds-put-count-2 c = search rules
 
-part-put-start-2 : tie.Need-slice-bounds-put-start-2
-part-put-start-2 c = search rules
+slice_bounds-put-start-2 : tie.Need-slice_bounds-put-start-2
+slice_bounds-put-start-2 c = search rules
 
-part-put-end-2 : tie.Need-slice-bounds-put-end-2
-part-put-end-2 c = search rules
+slice_bounds-put-end-2 : tie.Need-slice_bounds-put-end-2
+slice_bounds-put-end-2 c = search rules
 
 put-requires-2 : tie.Need-put-requires-2
 put-requires-2 c κs = search rules
 
-same_length : tie.Need-same-length
-same_length c = search rules
+shape_of-out : tie.Need-shape_of-out
+shape_of-out c = search rules
 
-returns-3 : tie.Need-returns-3
-returns-3 c = two_laid _ _ _ _ _ _ (omega arith) c.before.before.before.before.before.before.put.ensures c.before.before.put2.ensures
+returns : tie.Need-returns
+returns c = two_laid _ _ _ _ _ _ (omega arith) c.put.ensures c.put-2.ensures
 
-pub lay-spec : {M : Type 1} → statement M
-lay-spec =
+pub lay_spec : {M : Type 1} → statement M
+lay_spec =
     tie.close
     (tie.spec
-    returns
-    sub-if2
-    returns-2
-    add-end
-    sub-put
-    part-put-start
-    part-put-end
+    returns-then-out-lt2
+    overflow_sub-out
+    returns-then-out-n
+    overflow_add-end
+    slice_bounds-put-count
+    slice_bounds-put-start
+    slice_bounds-put-end
     put-requires
-    sub-put-2
-    part-put-start-2
-    part-put-end-2
+    slice_bounds-put-count-2
+    slice_bounds-put-start-2
+    slice_bounds-put-end-2
     put-requires-2
-    same_length
-    returns-3)
+    shape_of-out
+    returns)

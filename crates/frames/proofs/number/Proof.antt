@@ -5,51 +5,51 @@ use Rattle.frames.proofs.Loops.{Reading, reading_starts, room, digit_small, read
 use Rattle.frames.proofs.number.Statement.{statement}
 use Rattle.frames.proofs.number.Tie as tie
 
-abbrev invariant-loop : tie.invariant-loop
-invariant-loop field n₀ i₀ n i = Reading field n i
+abbrev invariant-loop-i : tie.invariant-loop-i
+invariant-loop-i field n₀ i₀ n i = Reading field n i
 
-abbrev decreases-loop : tie.decreases-loop
-decreases-loop field n₀ i₀ n i = length field - i
+abbrev decreases-loop-i : tie.decreases-loop-i
+decreases-loop-i field n₀ i₀ n i = length field - i
 
-loop-holds : tie.Need-loop-init invariant-loop decreases-loop
-loop-holds c = reading_starts _ c.before.requires.hex
+loop-i-init : tie.Need-loop-i-init invariant-loop-i decreases-loop-i
+loop-i-init c = reading_starts _ c.requires.hex
 
-mul-n : tie.Need-overflow-mul-n invariant-loop decreases-loop
-mul-n c = omega (arith, room _ _ _ c.before.loop.invariant (omega arith) c.before.before.before.requires.short)
+overflow_mul-n : tie.Need-overflow_mul-n invariant-loop-i decreases-loop-i
+overflow_mul-n c = omega (arith, room _ _ _ c.loop-i.invariant (omega arith) c.requires.short)
 
-shared-slice-read-value : tie.Need-shared-slice-read-value invariant-loop decreases-loop
-shared-slice-read-value c = omega arith
+bounds-field-i : tie.Need-bounds-field-i invariant-loop-i decreases-loop-i
+bounds-field-i c = omega arith
 
-value-requires : tie.Need-value-requires invariant-loop decreases-loop
+value-requires : tie.Need-value-requires invariant-loop-i decreases-loop-i
 value-requires c κs = tt
 
-add-n : tie.Need-overflow-add-n invariant-loop decreases-loop
-add-n c = omega (arith, room _ _ _ c.before.before.before.loop.invariant (omega arith) c.before.before.before.before.before.requires.short, digit_small _ _ _ c.before.before.before.loop.invariant (omega arith), c.value.ensures)
+overflow_add-n : tie.Need-overflow_add-n invariant-loop-i decreases-loop-i
+overflow_add-n c = omega (arith, room _ _ _ c.loop-i.invariant (omega arith) c.requires.short, digit_small _ _ _ c.loop-i.invariant (omega arith), c.value.ensures)
 
-add-i : tie.Need-overflow-add-i invariant-loop decreases-loop
-add-i c = omega arith
+overflow_add-i : tie.Need-overflow_add-i invariant-loop-i decreases-loop-i
+overflow_add-i c = omega arith
 
-loop-less : tie.Need-loop-smaller invariant-loop decreases-loop
-loop-less c = omega arith
+loop-i-smaller : tie.Need-loop-i-smaller invariant-loop-i decreases-loop-i
+loop-i-smaller c = omega arith
 
-loop-again : tie.Need-loop-preserved invariant-loop decreases-loop
-loop-again c = reads_on _ _ _ c.before.before.before.loop.invariant (omega arith) _ c.value.ensures
+loop-i-preserved : tie.Need-loop-i-preserved invariant-loop-i decreases-loop-i
+loop-i-preserved c = reads_on _ _ _ c.loop-i.invariant (omega arith) _ c.value.ensures
 
-returns : tie.Need-returns invariant-loop decreases-loop
-returns c = reads_all _ _ _ c.before.loop.invariant c.loop-test.false
+returns : tie.Need-returns invariant-loop-i decreases-loop-i
+returns c = reads_all _ _ _ c.loop-i.invariant c.loop-i-test.false
 
-pub number-spec : {M : Type 1} → statement M
-number-spec =
+pub number_spec : {M : Type 1} → statement M
+number_spec =
     tie.close
     (tie.spec
-    invariant-loop
-    decreases-loop
-    loop-holds
-    mul-n
-    shared-slice-read-value
+    invariant-loop-i
+    decreases-loop-i
+    loop-i-init
+    overflow_mul-n
+    bounds-field-i
     value-requires
-    add-n
-    add-i
-    loop-less
-    loop-again
+    overflow_add-n
+    overflow_add-i
+    loop-i-smaller
+    loop-i-preserved
     returns)

@@ -4,47 +4,47 @@ use Rattle.frames.proofs.Loops.{Putting, putting_starts, puts_on, put_all}
 use Rattle.frames.proofs.put.Statement.{statement}
 use Rattle.frames.proofs.put.Tie as tie
 
-abbrev invariant-loop : tie.invariant-loop
-invariant-loop field₀ n rest₀ i₀ field rest i = Putting (length field₀) n field rest i
+abbrev invariant-loop-i : tie.invariant-loop-i
+invariant-loop-i field₀ n rest₀ i₀ field rest i = Putting (length field₀) n field rest i
 
-abbrev decreases-loop : tie.decreases-loop
-decreases-loop field₀ n rest₀ i₀ field rest i = i
+abbrev decreases-loop-i : tie.decreases-loop-i
+decreases-loop-i field₀ n rest₀ i₀ field rest i = i
 
-loop-holds : tie.Need-loop-init invariant-loop decreases-loop
-loop-holds c = putting_starts _ _
+loop-i-init : tie.Need-loop-i-init invariant-loop-i decreases-loop-i
+loop-i-init c = putting_starts _ _
 
-sub-i : tie.Need-overflow-sub-i invariant-loop decreases-loop
-sub-i c = omega arith
+overflow_sub-i : tie.Need-overflow_sub-i invariant-loop-i decreases-loop-i
+overflow_sub-i c = omega arith
 
-last-digit-requires : tie.Need-last-digit-requires invariant-loop decreases-loop
-last-digit-requires c κs = tt
+last_digit-requires : tie.Need-last_digit-requires invariant-loop-i decreases-loop-i
+last_digit-requires c κs = tt
 
-slice-write-field : tie.Need-slice-write-field invariant-loop decreases-loop
-slice-write-field c = omega arith
+bounds-field-i : tie.Need-bounds-field-i invariant-loop-i decreases-loop-i
+bounds-field-i c = omega arith
 
-loop-less : tie.Need-loop-smaller invariant-loop decreases-loop
-loop-less c = omega arith
+loop-i-smaller : tie.Need-loop-i-smaller invariant-loop-i decreases-loop-i
+loop-i-smaller c = omega arith
 
-loop-again : tie.Need-loop-preserved invariant-loop decreases-loop
-loop-again c = puts_on _ _ _ _ _ _ c.before.before.loop.invariant (omega arith) c.last-digit.ensures
+loop-i-preserved : tie.Need-loop-i-preserved invariant-loop-i decreases-loop-i
+loop-i-preserved c = puts_on _ _ _ _ _ _ c.loop-i.invariant (omega arith) c.last_digit.ensures
 
-same_length : tie.Need-same-length invariant-loop decreases-loop
-same_length c = c.before.loop.invariant.same
+shape_of-field : tie.Need-shape_of-field invariant-loop-i decreases-loop-i
+shape_of-field c = c.loop-i.invariant.same
 
-returns : tie.Need-returns invariant-loop decreases-loop
-returns c = put_all _ _ _ _ _ c.before.loop.invariant (omega arith)
+returns : tie.Need-returns invariant-loop-i decreases-loop-i
+returns c = put_all _ _ _ _ _ c.loop-i.invariant (omega arith)
 
 pub put_spec : {M : Type 1} → statement M
 put_spec =
     tie.close
     (tie.spec
-    invariant-loop
-    decreases-loop
-    loop-holds
-    sub-i
-    last-digit-requires
-    slice-write-field
-    loop-less
-    loop-again
-    same_length
+    invariant-loop-i
+    decreases-loop-i
+    loop-i-init
+    overflow_sub-i
+    last_digit-requires
+    bounds-field-i
+    loop-i-smaller
+    loop-i-preserved
+    shape_of-field
     returns)

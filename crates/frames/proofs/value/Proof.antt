@@ -4,31 +4,31 @@ use borrow.Author.Rules.{rules}
 use Rattle.frames.proofs.value.Statement.{statement}
 use Rattle.frames.proofs.value.Tie as tie
 
+returns-then-c-lt48 : tie.Need-returns-then-c-lt48
+returns-then-c-lt48 c = value_before _ (omega arith)
+
+overflow_cast-result : tie.Need-overflow_cast-result
+overflow_cast-result c = search rules
+
+returns-then-c-lt58 : tie.Need-returns-then-c-lt58
+returns-then-c-lt58 c = value_figure _ (omega arith) (omega arith)
+
+returns-then-c-lt65 : tie.Need-returns-then-c-lt65
+returns-then-c-lt65 c = value_between _ (omega arith) (omega arith)
+
+overflow_sub-result-then-c-lt71 : tie.Need-overflow_sub-result-then-c-lt71
+overflow_sub-result-then-c-lt71 c = search rules
+
+overflow_cast-result-then-c-lt71 : tie.Need-overflow_cast-result-then-c-lt71
+overflow_cast-result-then-c-lt71 c = search rules
+
+returns-then-c-lt71 : tie.Need-returns-then-c-lt71
+returns-then-c-lt71 c = value_letter _ (omega arith) (omega arith)
+
 returns : tie.Need-returns
-returns c = value_before _ (omega arith)
-
-cast-result : tie.Need-overflow-cast-result
-cast-result c = search rules
-
-returns-2 : tie.Need-returns-2
-returns-2 c = value_figure _ (omega arith) (omega arith)
-
-returns-3 : tie.Need-returns-3
-returns-3 c = value_between _ (omega arith) (omega arith)
-
-sub-result : tie.Need-overflow-sub-result
-sub-result c = search rules
-
-cast-result-2 : tie.Need-overflow-cast-result-2
-cast-result-2 c = search rules
-
-returns-4 : tie.Need-returns-4
-returns-4 c = value_letter _ (omega arith) (omega arith)
-
-returns-5 : tie.Need-returns-5
-returns-5 c = value_past _ (omega arith)
+returns c = value_past _ (omega arith)
 
 pub value_spec : {M : Type 1} → statement M
 value_spec =
     tie.close
-    (tie.spec returns cast-result returns-2 returns-3 sub-result cast-result-2 returns-4 returns-5)
+    (tie.spec returns-then-c-lt48 overflow_cast-result returns-then-c-lt58 returns-then-c-lt65 overflow_sub-result-then-c-lt71 overflow_cast-result-then-c-lt71 returns-then-c-lt71 returns)

@@ -4,39 +4,39 @@ use borrow.Author.Rules.{rules}
 use Rattle.frames.proofs.write.Statement.{statement}
 use Rattle.frames.proofs.write.Tie as tie
 
-order-writable-requires : tie.Need-order-writable-requires
-order-writable-requires c κs = search rules
+order_writable-requires : tie.Need-order_writable-requires
+order_writable-requires c κs = search rules
 
-code-of-requires : tie.Need-code-of-requires
-code-of-requires c κs = search rules
+code_of-code-requires : tie.Need-code_of-code-requires
+code_of-code-requires c κs = search rules
 
-width-requires : tie.Need-width-requires
-width-requires c κs = search rules
+width-n-requires : tie.Need-width-n-requires
+width-n-requires c κs = search rules
 
-body-of-requires : tie.Need-body-of-requires
-body-of-requires c κs = search rules
+body_of-body-requires : tie.Need-body_of-body-requires
+body_of-body-requires c κs = search rules
 
 lay-requires : tie.Need-lay-requires
 lay-requires c κs = search rules
 
-same_length : tie.Need-same-length
-same_length c = search rules
+shape_of-out-then-order_writable : tie.Need-shape_of-out-then-order_writable
+shape_of-out-then-order_writable c = search rules
+
+returns-then-order_writable : tie.Need-returns-then-order_writable
+returns-then-order_writable c = frame_laid c.args.order _ _ _ _ _ _ (sym c.order_writable.ensures ∙ c.if-order_writable.true) c.code_of-code.ensures c.width-n.ensures c.body_of-body.ensures c.lay.ensures
 
 returns : tie.Need-returns
-returns c = frame_laid c.before.before.before.before.before.before.before.before.before.before.args.order _ _ _ _ _ _ (sym c.before.before.before.before.before.before.before.before.order-writable.ensures ∙ c.before.before.before.before.before.before.before.if1.true) c.before.before.before.before.before.before.code_of_lem.ensures c.before.before.before.before.before.width.ensures c.before.before.before.before.body_of.ensures c.before.before.lay.ensures
-
-returns-2 : tie.Need-returns-2
-returns-2 c = search rules
+returns c = search rules
 
 pub write_spec : {M : Type 1} → statement M
 write_spec =
     tie.close
     (tie.spec
-    order-writable-requires
-    code-of-requires
-    width-requires
-    body-of-requires
+    order_writable-requires
+    code_of-code-requires
+    width-n-requires
+    body_of-body-requires
     lay-requires
-    same_length
-    returns
-    returns-2)
+    shape_of-out-then-order_writable
+    returns-then-order_writable
+    returns)

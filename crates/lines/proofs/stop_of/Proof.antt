@@ -4,17 +4,17 @@ use borrow.Author.Rules.{rules}
 use Rattle.lines.proofs.stop_of.Statement.{statement}
 use Rattle.lines.proofs.stop_of.Tie as tie
 
-sub-if1 : tie.Need-overflow-sub-if1
-sub-if1 c = search rules
+overflow_sub-end : tie.Need-overflow_sub-end
+overflow_sub-end c = search rules
+
+returns-then-end-at-lt-KEPT : tie.Need-returns-then-end-at-lt-KEPT
+returns-then-end-at-lt-KEPT c = inl (omega arith)
+
+overflow_add-result : tie.Need-overflow_add-result
+overflow_add-result c = search rules
 
 returns : tie.Need-returns
-returns c = inl (omega arith)
+returns c = inr (omega arith, omega arith)
 
-add-result : tie.Need-overflow-add-result
-add-result c = search rules
-
-returns-2 : tie.Need-returns-2
-returns-2 c = inr (omega arith, omega arith)
-
-pub stop-of-spec : {M : Type 1} → statement M
-stop-of-spec = tie.close (tie.spec sub-if1 returns add-result returns-2)
+pub stop_of_spec : {M : Type 1} → statement M
+stop_of_spec = tie.close (tie.spec overflow_sub-end returns-then-end-at-lt-KEPT overflow_add-result returns)

@@ -8,36 +8,36 @@ use Rattle.text.proofs.lay_number.Tie as tie
 places-requires : tie.Need-places-requires
 places-requires c κs = search rules
 
-add-end : tie.Need-overflow-add-end
-add-end c = omega (arith, places_few c.before.before.args.n (omega arith))
+overflow_add-end : tie.Need-overflow_add-end
+overflow_add-end c = omega (arith, places_few c.args.n (omega arith))
 
-sub-put : tie.Need-overflow-sub-put
-sub-put c = search rules
+slice_bounds-put-count : tie.Need-slice_bounds-put-count
+slice_bounds-put-count c = search rules
 
-part-put-start : tie.Need-slice-bounds-put-start
-part-put-start c = search rules
+slice_bounds-put-start : tie.Need-slice_bounds-put-start
+slice_bounds-put-start c = search rules
 
-part-put-end : tie.Need-slice-bounds-put-end
-part-put-end c = omega (arith, places_few c.before.before.args.n (omega arith))
+slice_bounds-put-end : tie.Need-slice_bounds-put-end
+slice_bounds-put-end c = omega (arith, places_few c.args.n (omega arith))
 
 put-requires : tie.Need-put-requires
 put-requires c κs = search rules
 
-same_length : tie.Need-same-length
-same_length c = search rules
+shape_of-out : tie.Need-shape_of-out
+shape_of-out c = search rules
 
 returns : tie.Need-returns
-returns c = number_laid _ _ _ _ _ _ (omega arith) (omega arith) (omega arith) (omega arith) c.before.before.put.ensures
+returns c = number_laid _ _ _ _ _ _ (omega arith) (omega arith) (omega arith) (omega arith) c.put.ensures
 
-pub lay-number-spec : {M : Type 1} → statement M
-lay-number-spec =
+pub lay_number_spec : {M : Type 1} → statement M
+lay_number_spec =
     tie.close
     (tie.spec
     places-requires
-    add-end
-    sub-put
-    part-put-start
-    part-put-end
+    overflow_add-end
+    slice_bounds-put-count
+    slice_bounds-put-start
+    slice_bounds-put-end
     put-requires
-    same_length
+    shape_of-out
     returns)

@@ -7,27 +7,27 @@ use Rattle.text.proofs.DecimalLaws.{places_one, places_more, places_some, places
 use Rattle.text.proofs.places.Statement.{statement}
 use Rattle.text.proofs.places.Tie as tie
 
-abbrev invariant-loop : tie.invariant-loop
-invariant-loop n high₀ count₀ high count = count + places high ≡ places n + 1
+abbrev invariant-loop-high : tie.invariant-loop-high
+invariant-loop-high n high₀ count₀ high count = count + places high ≡ places n + 1
 
-abbrev decreases-loop : tie.decreases-loop
-decreases-loop n high₀ count₀ high count = high
+abbrev decreases-loop-high : tie.decreases-loop-high
+decreases-loop-high n high₀ count₀ high count = high
 
-loop-holds : tie.Need-loop-init invariant-loop decreases-loop
-loop-holds c = omega arith
+loop-high-init : tie.Need-loop-high-init invariant-loop-high decreases-loop-high
+loop-high-init c = omega arith
 
-add-count : tie.Need-overflow-add-count invariant-loop decreases-loop
-add-count c = omega (arith, places_few c.before.before.args.n (omega arith), places_some c.before.loop.high)
+overflow_add-count : tie.Need-overflow_add-count invariant-loop-high decreases-loop-high
+overflow_add-count c = omega (arith, places_few c.args.n (omega arith), places_some c.loop-high.high)
 
-loop-less : tie.Need-loop-smaller invariant-loop decreases-loop
-loop-less c = omega arith
+loop-high-smaller : tie.Need-loop-high-smaller invariant-loop-high decreases-loop-high
+loop-high-smaller c = omega arith
 
-loop-again : tie.Need-loop-preserved invariant-loop decreases-loop
-loop-again c = omega (arith, places_more c.before.loop.high (omega arith))
+loop-high-preserved : tie.Need-loop-high-preserved invariant-loop-high decreases-loop-high
+loop-high-preserved c = omega (arith, places_more c.loop-high.high (omega arith))
 
-returns : tie.Need-returns invariant-loop decreases-loop
-returns c = omega (arith, places_one c.before.loop.high (omega arith))
+returns : tie.Need-returns invariant-loop-high decreases-loop-high
+returns c = omega (arith, places_one c.loop-high.high (omega arith))
 
-pub places-spec : {M : Type 1} → statement M
-places-spec =
-    tie.close (tie.spec invariant-loop decreases-loop loop-holds add-count loop-less loop-again returns)
+pub places_spec : {M : Type 1} → statement M
+places_spec =
+    tie.close (tie.spec invariant-loop-high decreases-loop-high loop-high-init overflow_add-count loop-high-smaller loop-high-preserved returns)
