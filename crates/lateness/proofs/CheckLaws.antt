@@ -40,6 +40,9 @@ module _ {doors : List ℕ} {i : ℕ} (looked : Looked doors i) where
       let none : first_above (drop i doors) ≡ 0 = ap (λ k. first_above (drop k doors)) end ∙ ap first_above (drop-length doors) in
       omega (arith, looked.rest, none)
 
+-- what `first_above` is proved by
+pub ruleset looked_laws = (looked_none, looked_more, looked_here, looked_all)
+
 -- ---- the answer
 
 -- where the lengths are equal
@@ -79,6 +82,9 @@ module _ (due acting doors : List ℕ) where
 
       pub accepted : length doors ≤ 4096 → length doors ≤ first_above doors → 0 ≡ answer_of due acting doors
       accepted f h = sym (equal ∙ rw (leb-false 4097 (length doors) (omega arith), leb-false (suc (first_above doors)) (length doors) (omega arith)) refl)
+
+-- what `checked` is proved by
+pub ruleset answer_laws = (other_dues, other_actings, too_many, door_above, accepted)
 
 -- ---- a door byte above 2, wherever it stands
 

@@ -47,6 +47,9 @@ module _ (door : ℕ) {due acting doors : List ℕ} (lent : Lent due acting door
       let here = back f ∙ e ∙ ap (λ n. numbered n (of_door door (pairs_of due acting doors))) lower in
       λ i. record { seen = told i; median = here i }
 
+-- what `row_of` is proved by
+pub ruleset row_laws = (count_few, row_none, middle_number, row_is)
+
 -- ---- a report
 
 module _ (due acting doors : List ℕ) where
@@ -77,6 +80,9 @@ module _ (due acting doors : List ℕ) where
     report_done z b l r =
         let rows : record { answer = a; both = both; left = left; right = right } ≡ report_from 0 (pairs_of due acting doors) = λ i. record { answer = z i; both = b i; left = l i; right = r i } in
         rows ∙ ap (λ a. report_from a (pairs_of due acting doors)) (sym z ∙ e)
+
+-- what `report_of` is proved by
+pub ruleset report_laws = (done_lent, report_refused, report_done)
 
 -- ---- how large the numbers of a report can be
 

@@ -1,5 +1,5 @@
 -- One pair more, and what it changes in a row.
-use Rattle.std.proofs.Common.{◌≡◌, ℕ, zero, suc, ◌+◌, ◌-◌, ◌<◌, ◌≤◌, cond, leb, ◌≢◌, List, [], ◌∷◌, length, drop, ℤ, pos, negsuc, ◌+ℤ◌, sym, refl, ap, ◌∙◌, subst, ⊎_elim, arith}
+use Rattle.std.proofs.Common.{◌≡◌, ℕ, zero, suc, ◌+◌, ◌<◌, ◌≤◌, cond, leb, ◌≢◌, List, [], ◌∷◌, length, drop, ℤ, pos, negsuc, ◌+ℤ◌, sym, refl, ap, ◌∙◌, subst, ⊎_elim, arith}
 use lib.Dec.{leb-suc-suc}
 use lib.IntN.{+ℤ_idr}
 use lib.Signed.{le_z, mag}

@@ -1,5 +1,5 @@
 -- Signed numbers of 64 bits, as code reads and writes them.
-use Rattle.std.proofs.Common.{◌≡◌, ℕ, zero, suc, ◌+◌, ◌-◌, ◌*◌, ◌<◌, ◌≤◌, Bool, true, false, cond, T, ◌≢◌, List, [], ◌∷◌, ℤ, pos, negsuc, ◌+ℤ◌, ◌-ℤ◌, nat_abs, sym, refl, ap, ◌∙◌, arith, w64, Fits, SFits, to_z, of_z}
+use Rattle.std.proofs.Common.{◌≡◌, ℕ, zero, suc, ◌+◌, ◌*◌, ◌<◌, ◌≤◌, Bool, true, false, cond, T, ◌≢◌, List, [], ◌∷◌, ℤ, pos, negsuc, ◌+ℤ◌, ◌-ℤ◌, nat_abs, sym, refl, ap, ◌∙◌, arith, w64, Fits, SFits, to_z, of_z}
 use lib.Signed.{mag, le_z, non_neg}
 use mir.ValLaws.{to_z-of_z}
 use Rattle.lateness.specs.Clock.{turn, half, lateness_of, above_of, late_at}

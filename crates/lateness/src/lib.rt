@@ -1,4 +1,6 @@
 // How punctual the doors were: lateness in whole ticks, and for each door byte a report of it.
+#![tactic(auto)]
+
 ghost use Rattle.std.specs.Prelude.{◌≡◌, ◌<◌, List, [], ◌∷◌, ℤ, if◌then◌else◌, int_le};
 ghost use Rattle.std.specs.Int.Signed.{mag};
 ghost use Rattle.lateness.specs.Clock.{turn, half, lateness_of, above_of, late_at};
@@ -25,7 +27,7 @@ const NO_PAIRS: u8 = 10;
 const TOO_MANY: u8 = 15;
 
 // What one pass over a door's pairs tells.
-#[derive(Drop)]
+#[derive(Clone, Copy)]
 pub struct Seen {
     pub count: u64,
     pub earliest: i64,
@@ -35,13 +37,13 @@ pub struct Seen {
 }
 
 // One door's numbers.
-#[derive(Drop)]
+#[derive(Clone, Copy)]
 pub struct Row {
     pub seen: Seen,
     pub median: i64,
 }
 
-#[derive(Drop)]
+#[derive(Clone, Copy)]
 pub struct Report {
     pub answer: u8,
     pub both: Row,
@@ -49,6 +51,7 @@ pub struct Report {
     pub right: Row,
 }
 
+#[tactic(auto, using(crate::proofs::ClockLaws::late_by, crate::proofs::ClockLaws::early_by))]
 pub fn lateness(due: u32, acting: u32) -> i64
     ensures { result ≡ lateness_of due acting }
 {
@@ -77,6 +80,7 @@ fn later(x: i64, y: i64) -> i64
     x
 }
 
+#[tactic(auto, using(crate::proofs::SignedLaws::a_hit, crate::proofs::SignedLaws::no_hit))]
 fn hit(late: i64) -> u64
     ensures { result ≡ hits (late ∷ []) }
 {
@@ -86,6 +90,7 @@ fn hit(late: i64) -> u64
     0
 }
 
+#[tactic(auto, unfolding(crate::specs::Ordered::in_order, crate::specs::Ordered::numbered, crate::specs::Reports::hits, crate::specs::Reports::sum_of))]
 fn nothing() -> Seen
     ensures { result ≡ seen_of [] }
 {
@@ -162,6 +167,7 @@ fn at_most(due: &[u32], acting: &[u32], doors: &[u8], door: u8, most: i64) -> u6
 }
 
 // Lateness counted from the earliest that there can be.
+#[tactic(auto, using(crate::proofs::SignedLaws::raised_is))]
 fn above(late: i64) -> u64
     requires { mag late < half }
     ensures { result ≡ above_of late }
@@ -169,6 +175,7 @@ fn above(late: i64) -> u64
     (late - EARLIEST) as u64
 }
 
+#[tactic(auto, using(crate::proofs::SignedLaws::lowered_is))]
 fn late_at(above: u64) -> i64
     requires { above < turn }
     ensures { result ≡ late_at above }
@@ -203,6 +210,7 @@ fn number_in_order(
     late_at(low)
 }
 
+#[tactic(auto, using(crate::proofs::ReportLaws::no_pairs))]
 fn zeros() -> Row
     ensures { result ≡ row_of [] }
 {
@@ -212,6 +220,7 @@ fn zeros() -> Row
     }
 }
 
+#[tactic(auto, using(crate::proofs::ReportLaws::row_laws))]
 fn row_of(due: &[u32], acting: &[u32], doors: &[u8], door: u8) -> Row
     requires { Lent due.now acting.now doors.now }
     ensures { result ≡ row_of (of_door door (pairs_of due.now acting.now doors.now)) }
@@ -229,6 +238,7 @@ fn row_of(due: &[u32], acting: &[u32], doors: &[u8], door: u8) -> Row
 }
 
 // The place of the first door byte above 2, or behind the last.
+#[tactic(auto, using(crate::proofs::CheckLaws::looked_laws))]
 pub fn first_above(doors: &[u8]) -> usize
     ensures { result ≡ first_above doors.now }
 {
@@ -243,6 +253,7 @@ pub fn first_above(doors: &[u8]) -> usize
 }
 
 // Lists of different lengths are no pairs.
+#[tactic(auto, using(crate::proofs::CheckLaws::answer_laws))]
 fn checked(due: &[u32], acting: &[u32], doors: &[u8]) -> u8
     ensures { result ≡ answer_of due.now acting.now doors.now }
 {
@@ -263,6 +274,7 @@ fn checked(due: &[u32], acting: &[u32], doors: &[u8]) -> u8
 }
 
 // A refusal gives zeros.
+#[tactic(auto, using(crate::proofs::ReportLaws::report_laws))]
 pub fn report_of(due: &[u32], acting: &[u32], doors: &[u8]) -> Report
     ensures { result ≡ report_of due.now acting.now doors.now }
 {

@@ -29,6 +29,9 @@ kept_none k b h e = e ∙ ap (λ (c : Cut). c.keeps) (feed_end k b h)
 pub kept_on : (k : List ℕ) (b : ℕ) {k' : List ℕ} → (b ≡ 10 → ⊥) → k' ≡ decisive (k ++ (b ∷ [])) → k' ≡ (feed_of k b).keeps
 kept_on k b h e = e ∙ ap (λ (c : Cut). c.keeps) (feed_onward k b h)
 
+-- what `hear_byte` is proved by
+pub ruleset byte_laws = (byte_ends, byte_on, kept_none, kept_on)
+
 -- the last line
 
 pub last_none : (s : State) (k : List ℕ) → k ≡ [] → s ≡ lines_after s (last_reads k)

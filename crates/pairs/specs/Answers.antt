@@ -4,6 +4,6 @@ use Rattle.lateness.specs.Pairs as lateness
 use Rattle.pairs.specs.declared.ReadPair.{ReadPair}
 use Rattle.pairs.specs.declared.ReadPair.TheVariants.{Pair as Read, NotAPair}
 
-abbrev pub pairBack : ReadPair → Back lateness.Pair
-pairBack (Read p) = done (record { due = p.due; acting = p.acting; door = p.door })
-pairBack NotAPair = refused
+abbrev pub pair_back : ReadPair → Back lateness.Pair
+pair_back (Read p) = done (record { due = p.due; acting = p.acting; door = p.door })
+pair_back NotAPair = refused

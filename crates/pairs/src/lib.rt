@@ -1,9 +1,11 @@
 // Pairs of due and acting tick with a door, one a line; the input comes in any pieces and is kept in three lent arrays.
+#![tactic(auto)]
+
 ghost use Rattle.std.specs.Prelude.{◌≡◌, [], length};
 ghost use Rattle.lines.specs.Cutter.{feed_of, kept, kept_after};
 ghost use Rattle.pairs.specs.Reads.{pair_of, reads_by, reads_from, last_reads};
 ghost use Rattle.pairs.specs.State.{state_of, first_of, one_more, lines_after, Room};
-ghost use Rattle.pairs.specs.Answers.{pairBack};
+ghost use Rattle.pairs.specs.Answers.{pair_back};
 
 use lines::Cutter;
 
@@ -18,21 +20,21 @@ const MOST: usize = 4096;
 // Lines are counted so far and no further.
 const TOO_MANY: usize = 4097;
 
-#[derive(Drop)]
+#[derive(Clone, Copy)]
 pub struct Pair {
     pub due: u32,
     pub acting: u32,
     pub door: u8,
 }
 
-#[derive(Drop)]
+#[derive(Clone, Copy)]
 pub enum ReadPair {
     Pair(Pair),
     NotAPair,
 }
 
 // wrong is the number of the first line that is no pair, counted from 1; 0 while there is none.
-#[derive(Drop)]
+#[derive(Clone, Copy)]
 pub struct Heard {
     pub cutter: Cutter,
     pub lines: usize,
@@ -53,7 +55,7 @@ pub fn nothing_heard() -> Heard
 
 fn read(line: &[u8]) -> ReadPair
     requires { length line.now ≡ 18 }
-    ensures { pairBack result ≡ pair_of line.now }
+    ensures { pair_back result ≡ pair_of line.now }
 {
     if frames::capital(line) {
         let due = frames::number(&line[0..8]) as u32;
@@ -64,8 +66,9 @@ fn read(line: &[u8]) -> ReadPair
     ReadPair::NotAPair
 }
 
+#[tactic(auto, using(crate::proofs::ReadLaws::pair_kept, crate::proofs::ReadLaws::none_kept))]
 fn line_read(cutter: Cutter) -> ReadPair
-    ensures { pairBack result ≡ pair_of (kept cutter) }
+    ensures { pair_back result ≡ pair_of (kept cutter) }
 {
     let bytes = cutter.bytes;
     let len = cutter.len;
@@ -76,6 +79,7 @@ fn line_read(cutter: Cutter) -> ReadPair
 }
 
 // The first wrong line stays the first.
+#[tactic(auto, using(crate::proofs::StateLaws::first_none, crate::proofs::StateLaws::first_some))]
 fn first_of(so_far: usize, line: usize) -> usize
     ensures { result ≡ first_of so_far line }
 {
@@ -86,6 +90,7 @@ fn first_of(so_far: usize, line: usize) -> usize
 }
 
 // The line that is kept ends.
+#[tactic(auto, using(crate::proofs::StateLaws::more_over, crate::proofs::StateLaws::more_none))]
 fn ended(due: &mut [u32], acting: &mut [u32], doors: &mut [u8], heard: Heard) -> Heard
     requires { Room due.old acting.old doors.old }
     ensures result_after { state_of due.new acting.new doors.new result ≡ one_more (state_of due.old acting.old doors.old heard) (pair_of (kept heard.cutter)) }
@@ -120,6 +125,7 @@ fn ended(due: &mut [u32], acting: &mut [u32], doors: &mut [u8], heard: Heard) ->
     }
 }
 
+#[tactic(auto, using(crate::proofs::HearLaws::byte_laws))]
 fn hear_byte(due: &mut [u32], acting: &mut [u32], doors: &mut [u8], heard: Heard, byte: u8) -> Heard
     requires { Room due.old acting.old doors.old }
     ensures result_after { state_of due.new acting.new doors.new result ≡ lines_after (state_of due.old acting.old doors.old heard) (reads_by (kept heard.cutter) byte) }
@@ -157,6 +163,7 @@ pub fn hear(
 }
 
 // The last line, which counts if it has at least one byte.
+#[tactic(auto, using(crate::proofs::HearLaws::last_none, crate::proofs::HearLaws::last_some))]
 pub fn finish(due: &mut [u32], acting: &mut [u32], doors: &mut [u8], heard: Heard) -> Heard
     requires { Room due.old acting.old doors.old }
     ensures result_after { state_of due.new acting.new doors.new result ≡ lines_after (state_of due.old acting.old doors.old heard) (last_reads (kept heard.cutter)) }

@@ -1,11 +1,13 @@
 // The tally of a race day: one record, lent and brought up to date.
+#![tactic(auto)]
+
 ghost use Rattle.std.specs.Prelude.{◌≡◌};
 ghost use Rattle.tally.specs.Day.{tally_of, nothing, plus, once, added_if_done, added, up_to_date};
 
 use rules::Answer;
 
 // Which call it was.
-#[derive(Drop)]
+#[derive(Clone, Copy)]
 pub enum Call {
     Setup,
     Insert,
@@ -16,7 +18,7 @@ pub enum Call {
 }
 
 // What the tally is told of a call.
-#[derive(Drop)]
+#[derive(Clone, Copy)]
 pub struct Outcome {
     pub answer: Answer,
     pub steps: u64,
@@ -24,7 +26,7 @@ pub struct Outcome {
 }
 
 // Accepted inserts, entries handed out by take, merge steps, packings.
-#[derive(Drop)]
+#[derive(Clone, Copy)]
 pub struct Tally {
     pub inserts: u64,
     pub takes: u64,
@@ -82,6 +84,7 @@ fn added_if_done(call: Call, steps: u64, packed: bool) -> Tally
 }
 
 // Only answer 0 counts.
+#[tactic(auto, unfolding(crate::specs::Day::added))]
 fn added(call: Call, outcome: Outcome) -> Tally
     ensures { result ≡ added call outcome }
 {
@@ -94,6 +97,7 @@ fn added(call: Call, outcome: Outcome) -> Tally
 }
 
 // The update by value, for whoever holds the record.
+#[tactic(auto, unfolding(crate::specs::Day::up_to_date))]
 pub fn updated(tally: Tally, call: Call, outcome: Outcome) -> Tally
     ensures { result ≡ up_to_date tally call outcome }
 {
