@@ -1,13 +1,24 @@
 -- The whole input, in any pieces: what is said is decided by its bytes alone.
-use Prim.Native.Nat.{ℕ}
-use mathlib.Core.Path.{◌≡◌, sym, ap, ◌∙◌}
-use mathlib.Core.List.{List, [], flatten}
-use Rattle.pairs.specs.Reads.{reads_of, last_reads}
+use Prim.Native.Nat.{ℕ, zero, suc, ◌+◌, ◌<◌, ◌≤◌}
+use mathlib.Core.Path.{◌≡◌, refl, sym, ap, ◌∙◌, subst}
+use mathlib.Core.Bool.{Bool, true, false}
+use Rattle.std.proofs.lemmas.Bool.{true≢false}
+use mathlib.Core.List.{List, [], ◌++◌, flatten, append-nil}
+use native.Mathlib.Omega.{arith}
+use lib.ListN.{length, take, length-append}
+use Rattle.std.specs.Prelude.{IfSome, Option, None, Some}
+use Rattle.std.proofs.Common.{append_assoc}
+use Rattle.std.specs.Io.KnownBytes.{Consumes, IsAtEnd}
+use Rattle.lines.specs.Cutter.{kept_after}
+use Rattle.pairs.specs.Reads.{reads_of, reads_from, last_reads}
 use Rattle.pairs.specs.State.{State, lines_after}
 use Rattle.pairs.specs.Kept.{Kept}
 use Rattle.pairs.specs.Calls.{HeardSoFar, Fed}
-use Rattle.pairs.proofs.CallLaws.{so_ends, fed_kept}
-use Rattle.late.specs.Says.{says, state_said}
+use Rattle.pairs.proofs.CallLaws.{so_begins, so_on, so_ends, fed_kept}
+use Rattle.text.specs.Laid.{Laid}
+use Rattle.text.proofs.LaidLaws.{laid_reads}
+use Rattle.late.specs.Says.{Says, says, state_said}
+use Rattle.late.specs.Runs.{Told, TellsHeard, HearsPiece}
 use Rattle.late.proofs.SaidLaws.{kept_said_lem}
 
 -- the last line is read, behind bytes that were heard in any pieces
@@ -21,3 +32,77 @@ module _ {s s' : State} {pieces : List (List ℕ)} (begun : Kept [] s) (fed : Fe
 -- the same bytes in other pieces, from another beginning
 pub fed_same : {s t s' t' : State} {some others : List (List ℕ)} → Kept [] s → Kept [] t → flatten some ≡ flatten others → Fed s [] some s' → Fed t [] others t' → state_said s' ≡ state_said t'
 fed_same one two e fed again = fed_said one fed ∙ ap (λ (bytes : List ℕ). says (reads_of bytes)) e ∙ sym (fed_said two again)
+
+-- ---- a run: known bytes are consumed, and heard
+
+-- a read that gives nothing
+pub none_heard : {s : State} {k : List ℕ} {left left' : Option (List ℕ)} (n : ℕ) (piece : List ℕ) → n ≡ 0 → 0 < length piece
+    → Consumes left left' (take n piece) × (n ≡ 0 → 0 < length piece → IsAtEnd left') → HearsPiece s k s k left left' true
+unfolding lines_after reads_from kept_after
+none_heard zero piece e room read = record { piece = []; consumed = read.0; state = refl; keeps = refl; at_end = λ _. read.1 refl room; some = λ b. absurd (true≢false b) }
+none_heard (suc n) piece e room read = absurd (omega arith)
+
+-- what has been consumed in so many reads has been heard
+pub record Heard (n : ℕ) (begun : State) (left left' : Option (List ℕ)) (s : State) (k : List ℕ) : Type 0 where
+  pub bytes : List ℕ
+  pub consumed : Consumes left left' bytes
+  pub so : HeardSoFar begun bytes s k
+  pub long : n ≤ length bytes
+
+consumes_none : (left : Option (List ℕ)) → Consumes left left []
+consumes_none None = tt
+consumes_none (Some xs) = refl
+
+consumes_more : (left left₁ left₂ : Option (List ℕ)) (bytes piece : List ℕ) → Consumes left left₁ bytes → Consumes left₁ left₂ piece → Consumes left left₂ (bytes ++ piece)
+consumes_more None left₁ left₂ bytes piece c d = tt
+consumes_more (Some xs) None left₂ bytes piece c d = absurd c
+consumes_more (Some xs) (Some ys) None bytes piece c d = absurd d
+consumes_more (Some xs) (Some ys) (Some zs) bytes piece c d = c ∙ ap (λ (b : List ℕ). bytes ++ b) d ∙ sym (append_assoc bytes piece zs)
+
+pub heard_none : (begun : State) (left : Option (List ℕ)) {k : List ℕ} → k ≡ [] → Heard 0 begun left left begun k
+heard_none begun left e = rw e record { bytes = []; consumed = consumes_none left; so = so_begins begun; long = omega arith }
+
+pub heard_more : {n : ℕ} {begun s s' : State} {k k' : List ℕ} {left left₁ left₂ : Option (List ℕ)} {ended : Bool} → Heard n begun left left₁ s k → HearsPiece s k s' k' left₁ left₂ ended → ended ≡ false
+    → Heard (n + 1) begun left left₂ s' k'
+heard_more h p on = record {
+  bytes = h.bytes ++ p.piece;
+  consumed = consumes_more _ _ _ _ _ h.consumed p.consumed;
+  so = so_on h.so p.piece p.state p.keeps;
+  long = omega (arith, h.long, p.some on, length-append h.bytes p.piece);
+}
+
+pub heard_last : {n : ℕ} {begun s s' : State} {k k' : List ℕ} {left left₁ left₂ : Option (List ℕ)} {ended : Bool} → Heard n begun left left₁ s k → HearsPiece s k s' k' left₁ left₂ ended → Heard n begun left left₂ s' k'
+heard_last h p = record {
+  bytes = h.bytes ++ p.piece;
+  consumed = consumes_more _ _ _ _ _ h.consumed p.consumed;
+  so = so_on h.so p.piece p.state p.keeps;
+  long = omega (arith, h.long, length-append h.bytes p.piece);
+}
+
+-- at the end all bytes have been heard
+pub all_told : (most : ℕ) {n : ℕ} {begun s : State} {k : List ℕ} {left left' out out' err err' : Option (List ℕ)} → Kept [] begun → Heard n begun left left' s k → IsAtEnd left'
+    → TellsHeard s k out out' err err' → IfSome left (λ bytes. length bytes < most → Told (says (reads_of bytes)) out out' err err')
+all_told most {left = None} kept h end tells = tt
+all_told most {left = Some xs} {left' = None} kept h end tells = absurd h.consumed
+all_told most {left = Some xs} {left' = Some ys} {out} {out'} {err} {err'} kept h end tells =
+    let all : h.bytes ≡ xs = sym (h.consumed ∙ ap (λ (b : List ℕ). h.bytes ++ b) end ∙ append-nil h.bytes) in
+    λ short. subst (λ (b : List ℕ). Told (says (reads_of b)) out out' err err') all (tells _ _ kept h.so)
+
+-- an input shorter than the turns has ended before they are used up
+pub never : (most : ℕ) {n : ℕ} {begun s : State} {k : List ℕ} {left left' : Option (List ℕ)} (out out' err err' : Option (List ℕ)) → Heard n begun left left' s k → most ≤ n
+    → IfSome left (λ bytes. length bytes < most → Told (says (reads_of bytes)) out out' err err')
+never most {left = None} out out' err err' h all = tt
+never most {left = Some xs} {left' = None} out out' err err' h all = absurd h.consumed
+never most {left = Some xs} {left' = Some ys} out out' err err' h all = λ short. absurd (omega (arith, h.long, ap length h.consumed, length-append h.bytes ys))
+
+-- what is handed over to be written, and as what
+pub handed : {begun s s' : State} {bytes k : List ℕ} {refused : Bool} {before after : List ℕ} {end : ℕ} → Kept [] begun → HeardSoFar begun bytes s k → s' ≡ lines_after s (last_reads k)
+    → refused ≡ (state_said s').refused → Laid (state_said s').text 0 before after end → record { refused = refused; text = take end after } ≡ says (reads_of bytes)
+handed kept so e r laid = same r (laid_reads laid) ∙ so_said kept so e
+  where
+    same : {refused : Bool} {text : List ℕ} {s : Says} → refused ≡ s.refused → text ≡ s.text → record { refused = refused; text = text } ≡ s
+    same r t = rw (r, t) refl
+
+pub answered : {s s' : State} {k : List ℕ} {refused : Bool} {before after : List ℕ} {end : ℕ} {out out' err err' : Option (List ℕ)} → s' ≡ lines_after s (last_reads k)
+    → refused ≡ (state_said s').refused → Laid (state_said s').text 0 before after end → Told (record { refused = refused; text = take end after }) out out' err err' → TellsHeard s k out out' err err'
+answered {out = out} {out'} {err} {err'} e r laid told begun bytes kept so = subst (λ (s : Says). Told s out out' err err') (handed kept so e r laid) told

@@ -120,10 +120,15 @@ module _ (s : State) where
         said_rows h = said_pairs none ∙ said_report lent (omega (arith, count))
 
 -- what is laid is said
+pub told_refused : {said other : Says} {refused : Bool} → said ≡ other → refused ≡ other.refused → refused ≡ said.refused
+told_refused {refused = refused} e = subst (λ (s : Says). refused ≡ s.refused) (sym e)
+
+pub told_laid : {said other : Says} {before after : List ℕ} {end : ℕ} → said ≡ other → Laid other.text 0 before after end → Laid said.text 0 before after end
+told_laid {before = before} {after = after} {end = end} e = subst (λ (s : Says). Laid s.text 0 before after end) (sym e)
+
 pub told : {said other : Says} {refused : Bool} {before after : List ℕ} {end : ℕ} → said ≡ other → (refused ≡ other.refused) × (Laid other.text 0 before after end × (end ≤ 690))
     → (refused ≡ said.refused) × (Laid said.text 0 before after end × (end ≤ 690))
-told {refused = refused} {before = before} {after = after} {end = end} e =
-    subst (λ (s : Says). (refused ≡ s.refused) × (Laid s.text 0 before after end × (end ≤ 690))) (sym e)
+told e h = (told_refused e h.0, (told_laid e h.1.0, h.1.1))
 
 -- ---- of the lines
 

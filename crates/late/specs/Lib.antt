@@ -1,3 +1,4 @@
 pub mod Lines
 pub mod Says
 pub mod Examples
+pub mod Runs

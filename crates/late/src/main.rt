@@ -1,29 +1,35 @@
 // Reads pairs, one a line, to the end of standard input, and prints how punctual each door was, or why it does not.
-ghost use Rattle.std.specs.Prelude.{◌≡◌, true, false, ◌++◌, ◌+◌, ◌≤◌, length};
+#![tactic(auto)]
+
+ghost use Rattle.std.specs.Prelude.{◌≡◌, true, false, ◌++◌, ◌+◌, ◌≤◌, length, OnOk, OnErr, IfOk, MatchBool, IfSome, ◌<◌};
 ghost use Rattle.lateness.specs.Reports.{Few, Small, report_of};
-ghost use Rattle.pairs.specs.State.{Room};
+ghost use Rattle.pairs.specs.State.{Room, state_of};
+ghost use Rattle.pairs.specs.Reads.{reads_of};
+ghost use Rattle.lines.specs.Cutter.{kept};
 ghost use Rattle.text.specs.Decimal.{decimal, signed};
 ghost use Rattle.text.specs.Laid.{Laid};
 ghost use Rattle.late.specs.Lines.{seen_text, mean_text, row_line, report_lines, too_many_lines, no_pair, door_above};
-ghost use Rattle.late.specs.Says.{kept_said};
+ghost use Rattle.late.specs.Says.{kept_said, says};
+ghost use Rattle.late.specs.Runs.{Told, TellsHeard, HearsPiece};
 
 use lateness::{Report, Row, Seen};
 use pairs::Heard;
+use std::io;
+use std::io::{Read, Write};
 
 const MOST: usize = 4096;
 
 // Whether it is a refusal, and where its text ends.
-#[derive(Drop)]
+#[derive(Clone, Copy)]
 pub struct Said {
     pub refused: bool,
     pub end: usize,
 }
 
-// What is heard so far; whether to read on; whether the input has ended.
-#[derive(Drop)]
+// What is heard so far; whether the input has ended.
+#[derive(Clone, Copy)]
 pub struct Went {
     pub heard: Heard,
-    pub on: bool,
     pub ended: bool,
 }
 
@@ -174,68 +180,82 @@ fn say(
 }
 
 // A report on standard output, a refusal on standard error.
-fn write_out(refused: bool, text: &[u8]) {
+fn write_out<W: Write, E: Write>(
+    output: &mut W,
+    errors: &mut E,
+    refused: bool,
+    text: &[u8],
+) -> io::Result<()>
+    ensures ok { OnOk result (Told (record { refused = refused; text = text.now }) (W.contents output.old) (W.contents output.new) (E.contents errors.old) (E.contents errors.new)) }
+    ensures err { OnErr result (MatchBool refused (output.new ≡ output.old) (errors.new ≡ errors.old)) }
+{
     if refused {
-        io::write_all(libc::STDERR_FILENO, text);
-        return;
+        return errors.write_all(text);
     }
-    let written = io::write_all(libc::STDOUT_FILENO, text);
-    if !written {
-        os::fail(b"write");
-    }
+    output.write_all(text)
 }
 
 // Reads once, and hears what came.
-fn read_piece(due: &mut [u32], acting: &mut [u32], doors: &mut [u8], heard: Heard) -> Went
+fn read_piece<R: Read>(
+    input: &mut R,
+    due: &mut [u32],
+    acting: &mut [u32],
+    doors: &mut [u8],
+    heard: Heard,
+) -> io::Result<Went>
     requires { Room due.old acting.old doors.old }
+    ensures ok { IfOk result (λ w. HearsPiece (state_of due.old acting.old doors.old heard) (kept heard.cutter) (state_of due.new acting.new doors.new w.heard) (kept w.heard.cutter) (R.remaining input.old) (R.remaining input.new) w.ended) }
+    ensures err { OnErr result ((due.new ≡ due.old) × (acting.new ≡ acting.old) × (doors.new ≡ doors.old)) }
 {
-    let mut piece = io::large_buffer();
-    let got = libc::read(libc::STDIN_FILENO, &mut piece);
-    if got <= 0 {
-        if got < 0 {
-            os::fail(b"read");
-        }
-        return Went {
-            heard,
-            on: false,
-            ended: got == 0,
-        };
+    let mut piece = [0u8; 65536];
+    let n = input.read(&mut piece)?;
+    if n == 0 {
+        return Ok(Went { heard, ended: true });
     }
-    let n = io::count(got, &piece);
-    Went {
+    Ok(Went {
         heard: pairs::hear(due, acting, doors, heard, &piece[..n]),
-        on: true,
         ended: false,
-    }
+    })
 }
 
 // The last line, and what there is to say.
-fn answer(due: &mut [u32], acting: &mut [u32], doors: &mut [u8], heard: Heard)
+fn answer<W: Write, E: Write>(
+    output: &mut W,
+    errors: &mut E,
+    due: &mut [u32],
+    acting: &mut [u32],
+    doors: &mut [u8],
+    heard: Heard,
+) -> io::Result<()>
     requires { Room due.old acting.old doors.old }
+    ensures { OnOk result (TellsHeard (state_of due.old acting.old doors.old heard) (kept heard.cutter) (W.contents output.old) (W.contents output.new) (E.contents errors.old) (E.contents errors.new)) }
 {
     let mut out = [0u8; 690];
     let all = pairs::finish(due, acting, doors, heard);
     let said = say(due, acting, doors, all.lines, all.wrong, &mut out);
     let end = said.end;
-    write_out(said.refused, &out[..end]);
+    write_out(output, errors, said.refused, &out[..end])
 }
 
-// A proved loop has to end, and nothing says that the input does: the turns count down from a number that no run uses up.
-fn main() {
+// Reads to the end of the input, and tells of its lines. A proved loop has to end, and nothing says that the input does:
+// it takes more turns than any run uses up, and each but the last reads a byte at least.
+fn run<R: Read, W: Write, E: Write>(input: &mut R, output: &mut W, errors: &mut E) -> io::Result<()>
+    ensures { OnOk result (IfSome (R.remaining input.old) (λ bytes. length bytes < u64.MAX → Told (says (reads_of bytes)) (W.contents output.old) (W.contents output.new) (E.contents errors.old) (E.contents errors.new))) }
+{
     let mut due = [0u32; 4096];
     let mut acting = [0u32; 4096];
     let mut doors = [0u8; 4096];
-    let mut went = Went {
-        heard: pairs::nothing_heard(),
-        on: true,
-        ended: false,
-    };
-    let mut turns = u64::MAX;
-    while turns > 0 && went.on {
-        turns -= 1;
-        went = read_piece(&mut due, &mut acting, &mut doors, went.heard);
+    let mut heard = pairs::nothing_heard();
+    for _turn in 0..u64::MAX {
+        let went = read_piece(input, &mut due, &mut acting, &mut doors, heard)?;
+        heard = went.heard;
+        if went.ended {
+            return answer(output, errors, &mut due, &mut acting, &mut doors, heard);
+        }
     }
-    if went.ended {
-        answer(&mut due, &mut acting, &mut doors, went.heard);
-    }
+    Ok(())
+}
+
+fn main(rt: HostRuntime) -> io::Result<()> {
+    run(&mut rt.stdin(), &mut rt.stdout(), &mut rt.stderr())
 }

@@ -1,5 +1,8 @@
 // Prints how large a queue of so many links is, and how long one call on it can run: a line for each number of links.
-ghost use Rattle.std.specs.Prelude.{◌≡◌, ◌++◌, ◌+◌, ◌*◌, ◌≤◌, ◌<◌, length};
+#![tactic(auto)]
+
+ghost use Rattle.std.specs.Prelude.{◌≡◌, ◌++◌, ◌+◌, ◌*◌, ◌≤◌, ◌<◌, length, OnOk};
+ghost use Rattle.std.specs.Io.KnownBytes.{Appends};
 ghost use Rattle.rules.specs.Links.{k, height, capacity, LinkNumber};
 ghost use Rattle.rules.specs.Tree.{k_merger};
 ghost use Rattle.rules.specs.Bounds.{per_insert, per_packing};
@@ -9,6 +12,8 @@ ghost use Rattle.text.specs.Laid.{Laid};
 ghost use Rattle.limits.specs.Lines.{sizes, inserts, line, lines_to};
 
 use rules::Link;
+use std::io;
+use std::io::Write;
 
 // How many S link i has; the fifth link's sizes stand here until a queue may have it.
 fn k(i: usize) -> usize
@@ -168,11 +173,15 @@ fn lay_lines(out: &mut [u8]) -> usize
     end
 }
 
-fn main() {
+// Writes the lines out.
+fn write_lines<W: Write>(output: &mut W) -> io::Result<()>
+    ensures { OnOk result (Appends (W.contents output.old) (W.contents output.new) (lines_to 5)) }
+{
     let mut out = [0u8; 1255];
     let end = lay_lines(&mut out);
-    let written = io::write_all(libc::STDOUT_FILENO, &out[..end]);
-    if !written {
-        os::fail(b"write");
-    }
+    output.write_all(&out[..end])
+}
+
+fn main(rt: HostRuntime) -> io::Result<()> {
+    write_lines(&mut rt.stdout())
 }

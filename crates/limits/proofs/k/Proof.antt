@@ -7,8 +7,8 @@ use Rattle.limits.proofs.SizeLaws.{fifth_k}
 use Rattle.limits.proofs.k.Statement.{statement}
 use Rattle.limits.proofs.k.Tie as tie
 
-returns : tie.Need-returns
-returns c = fifth_k (omega arith)
+returns-then-i-gt-MOST : tie.Need-returns-then-i-gt-MOST
+returns-then-i-gt-MOST c = fifth_k (omega arith)
 
 at-requires : tie.Need-at-requires
 at-requires c κs = search rules
@@ -16,8 +16,8 @@ at-requires c κs = search rules
 k-requires : tie.Need-k-requires
 k-requires c κs = search rules
 
-returns-2 : tie.Need-returns-2
-returns-2 c = c.k.ensures ∙ ap k c.before.at.ensures
+returns : tie.Need-returns
+returns c = c.k.ensures ∙ ap k c.at.ensures
 
-pub k-spec : {M : Type 1} → statement M
-k-spec = tie.close (tie.spec returns at-requires k-requires returns-2)
+pub k_spec : {M : Type 1} → statement M
+k_spec = tie.close (tie.spec returns-then-i-gt-MOST at-requires k-requires returns)

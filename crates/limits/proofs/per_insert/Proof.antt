@@ -5,21 +5,21 @@ use Rattle.rules.proofs.Table.{at_link}
 use Rattle.limits.proofs.per_insert.Statement.{statement}
 use Rattle.limits.proofs.per_insert.Tie as tie
 
-returns : tie.Need-returns
+returns-in-2 : tie.Need-returns-in-2
 unfolding per_insert
-returns c = at_link per_insert 2 c.before.args.links (omega arith)
+returns-in-2 c = at_link per_insert 2 c.args.links (omega arith)
 
-returns-2 : tie.Need-returns-2
+returns-in-3 : tie.Need-returns-in-3
 unfolding per_insert
-returns-2 c = at_link per_insert 3 c.before.args.links (omega arith)
+returns-in-3 c = at_link per_insert 3 c.args.links (omega arith)
 
-returns-3 : tie.Need-returns-3
+returns-in-0-to-1 : tie.Need-returns-in-0-to-1
 unfolding per_insert
-returns-3 c = at_link per_insert 1 c.before.before.args.links (omega arith)
+returns-in-0-to-1 c = at_link per_insert 1 c.args.links (omega arith)
 
-returns-4 : tie.Need-returns-4
+returns-in_default : tie.Need-returns-in_default
 unfolding per_insert
-returns-4 c = at_link per_insert 4 c.before.before.args.links (omega arith)
+returns-in_default c = at_link per_insert 4 c.args.links (omega arith)
 
-pub per-insert-spec : {M : Type 1} → statement M
-per-insert-spec = tie.close (tie.spec returns returns-2 returns-3 returns-4)
+pub per_insert_spec : {M : Type 1} → statement M
+per_insert_spec = tie.close (tie.spec returns-in-2 returns-in-3 returns-in-0-to-1 returns-in_default)

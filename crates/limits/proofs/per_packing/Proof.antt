@@ -4,7 +4,7 @@ use Prim.Native.Nat.{◌+◌, ◌^◌, ◌≤◌}
 use native.Mathlib.Omega.{arith}
 use native.Mathlib.Nat.{mul-le-mul}
 use borrow.Author.Rules.{rules}
-use Rattle.rules.specs.Links.{height, most}
+use Rattle.rules.specs.Links.{most}
 use Rattle.rules.specs.Bounds.{per_packing}
 use Rattle.rules.proofs.Table.{most_few}
 use Rattle.limits.proofs.SizeLaws.{height_few}
@@ -12,14 +12,14 @@ use Rattle.limits.proofs.per_packing.Statement.{statement}
 use Rattle.limits.proofs.per_packing.Tie as tie
 
 -- H is that of these links
-most_is : (c : tie.After-most) → c.most.result ≡ most c.before.before.before.args.links
-most_is c = c.most.ensures ∙ ap most c.before.at.ensures
+most_is : (c : tie.After-most) → c.most.result ≡ most c.args.links
+most_is c = c.most.ensures ∙ ap most c.at.ensures
 
 height-requires : tie.Need-height-requires
 height-requires c κs = search rules
 
-add-result : tie.Need-overflow-add-result
-add-result c = omega (arith, c.height.ensures, height_few c.before.args.links (omega arith) (omega arith))
+overflow_add-result : tie.Need-overflow_add-result
+overflow_add-result c = omega (arith, c.height.ensures, height_few c.args.links (omega arith) (omega arith))
 
 at-requires : tie.Need-at-requires
 at-requires c κs = search rules
@@ -27,16 +27,16 @@ at-requires c κs = search rules
 most-requires : tie.Need-most-requires
 most-requires c κs = search rules
 
-mul-result : tie.Need-overflow-mul-result
-mul-result c =
-    let links = c.before.before.before.args.links in
-    let deep : links + c.before.before.height.result ≤ 10 = omega (arith, c.before.before.height.ensures, height_few links (omega arith) (omega arith)) in
-    let many : c.most.result ≤ 2 ^ 20 = omega (arith, most_is c, most_few c.before.before.before.requires) in
+overflow_mul-result : tie.Need-overflow_mul-result
+overflow_mul-result c =
+    let links = c.args.links in
+    let deep : links + c.height.result ≤ 10 = omega (arith, c.height.ensures, height_few links (omega arith) (omega arith)) in
+    let many : c.most.result ≤ 2 ^ 20 = omega (arith, most_is c, most_few c.requires) in
     omega (arith, mul-le-mul deep many)
 
 returns : tie.Need-returns
 unfolding per_packing
-returns c = rw (most_is c, c.before.before.height.ensures) refl
+returns c = rw (most_is c, c.height.ensures) refl
 
-pub per-packing-spec : {M : Type 1} → statement M
-per-packing-spec = tie.close (tie.spec height-requires add-result at-requires most-requires mul-result returns)
+pub per_packing_spec : {M : Type 1} → statement M
+per_packing_spec = tie.close (tie.spec height-requires overflow_add-result at-requires most-requires overflow_mul-result returns)

@@ -9,63 +9,63 @@ use Rattle.limits.proofs.RisenLaws.{LevelsSummed, levels_first, NextLevel, next_
 use Rattle.limits.proofs.risen.Statement.{statement}
 use Rattle.limits.proofs.risen.Tie as tie
 
-abbrev invariant-loop : tie.invariant-loop
-invariant-loop i levels₀ j₀ total₀ levels j total = LevelsSummed i levels j total
+abbrev invariant-loop-levels : tie.invariant-loop-levels
+invariant-loop-levels i levels₀ j₀ total₀ levels j total = LevelsSummed i levels j total
 
-abbrev decreases-loop : tie.decreases-loop
-decreases-loop i levels₀ j₀ total₀ levels j total = levels
+abbrev decreases-loop-levels : tie.decreases-loop-levels
+decreases-loop-levels i levels₀ j₀ total₀ levels j total = levels
 
 -- the level that the loop comes to
-next : (c : tie.In-loop invariant-loop decreases-loop) → let l = c.before.loop in NextLevel c.before.before.before.args.i l.levels l.j l.total
-next c = next_level _ _ _ _ c.before.loop.invariant (omega arith)
+next : (c : tie.In-loop-levels invariant-loop-levels decreases-loop-levels) → let l = c.loop-levels in NextLevel c.args.i l.levels l.j l.total
+next c = next_level _ _ _ _ c.loop-levels.invariant (omega arith)
 
 -- with the capacity that was asked for
-abbrev counted : (c : tie.After-capacity invariant-loop decreases-loop) → let l = c.before.before.loop in l.j * c.capacity.result ≡ l.j * capacity c.before.before.before.before.args.i l.j
-counted c = ap (λ n. c.before.before.loop.j * n) c.capacity.ensures
+abbrev counted : (c : tie.After-capacity invariant-loop-levels decreases-loop-levels) → let l = c.loop-levels in l.j * c.capacity.result ≡ l.j * capacity c.args.i l.j
+counted c = ap (λ n. c.loop-levels.j * n) c.capacity.ensures
 
 -- and no more in all than five links cost
-few : (c : tie.After-capacity invariant-loop decreases-loop) → let l = c.before.before.loop in
+few : (c : tie.After-capacity invariant-loop-levels decreases-loop-levels) → let l = c.loop-levels in
     (l.j * c.capacity.result ≤ 223488) × (l.total + l.j * c.capacity.result * l.levels ≤ 223488) × (l.j < 32)
 few c =
     let n = next c.before in
-    let i = c.before.before.before.before.args.i in
-    let l = c.before.before.loop in
+    let i = c.args.i in
+    let l = c.loop-levels in
     let all = risen_few i (omega arith) (omega arith) in
     rw (counted c) (omega (arith, n.each, n.whole, all), omega (arith, n.whole, all), omega (arith, n.inner, k_few i (omega arith) (omega arith)))
 
-height-requires : tie.Need-height-requires invariant-loop decreases-loop
-height-requires c κs = search rules
+height-levels-requires : tie.Need-height-levels-requires invariant-loop-levels decreases-loop-levels
+height-levels-requires c κs = search rules
 
-loop-holds : tie.Need-loop-init invariant-loop decreases-loop
-loop-holds c = levels_first c.before.args.i (omega arith) c.height.result c.height.ensures
+loop-levels-init : tie.Need-loop-levels-init invariant-loop-levels decreases-loop-levels
+loop-levels-init c = levels_first c.args.i (omega arith) c.height-levels.result c.height-levels.ensures
 
-capacity-requires : tie.Need-capacity-requires invariant-loop decreases-loop
+capacity-requires : tie.Need-capacity-requires invariant-loop-levels decreases-loop-levels
 capacity-requires c κs = (omega arith, omega arith, (next c).inner)
 
-mul-total : tie.Need-overflow-mul-total invariant-loop decreases-loop
-mul-total c = omega (arith, (few c).0)
+overflow_mul-total : tie.Need-overflow_mul-total invariant-loop-levels decreases-loop-levels
+overflow_mul-total c = omega (arith, (few c).0)
 
-mul-total-2 : tie.Need-overflow-mul-total-2 invariant-loop decreases-loop
-mul-total-2 c = omega (arith, (few c).1)
+overflow_mul-total-in-loop-levels : tie.Need-overflow_mul-total-in-loop-levels invariant-loop-levels decreases-loop-levels
+overflow_mul-total-in-loop-levels c = omega (arith, (few c).1)
 
-add_total : tie.Need-overflow-add-total invariant-loop decreases-loop
-add_total c = omega (arith, (few c).1)
+overflow_add-total : tie.Need-overflow_add-total invariant-loop-levels decreases-loop-levels
+overflow_add-total c = omega (arith, (few c).1)
 
-mul-j : tie.Need-overflow-mul-j invariant-loop decreases-loop
-mul-j c = omega (arith, (few c).2)
+overflow_mul-j : tie.Need-overflow_mul-j invariant-loop-levels decreases-loop-levels
+overflow_mul-j c = omega (arith, (few c).2)
 
-sub-levels : tie.Need-overflow-sub-levels invariant-loop decreases-loop
-sub-levels c = search rules
+overflow_sub-levels : tie.Need-overflow_sub-levels invariant-loop-levels decreases-loop-levels
+overflow_sub-levels c = search rules
 
-loop-less : tie.Need-loop-smaller invariant-loop decreases-loop
-loop-less c = omega arith
+loop-levels-smaller : tie.Need-loop-levels-smaller invariant-loop-levels decreases-loop-levels
+loop-levels-smaller c = omega arith
 
-loop-again : tie.Need-loop-preserved invariant-loop decreases-loop
-loop-again c = rw (counted c) (next c.before).then
+loop-levels-preserved : tie.Need-loop-levels-preserved invariant-loop-levels decreases-loop-levels
+loop-levels-preserved c = rw (counted c) (next c.before).then
 
-returns : tie.Need-returns invariant-loop decreases-loop
-returns c = levels_last _ _ _ _ c.before.loop.invariant (omega arith)
+returns : tie.Need-returns invariant-loop-levels decreases-loop-levels
+returns c = levels_last _ _ _ _ c.loop-levels.invariant (omega arith)
 
-pub risen-spec : {M : Type 1} → statement M
-risen-spec =
-    tie.close (tie.spec invariant-loop decreases-loop height-requires loop-holds capacity-requires mul-total mul-total-2 add_total mul-j sub-levels loop-less loop-again returns)
+pub risen_spec : {M : Type 1} → statement M
+risen_spec =
+    tie.close (tie.spec invariant-loop-levels decreases-loop-levels height-levels-requires loop-levels-init capacity-requires overflow_mul-total overflow_mul-total-in-loop-levels overflow_add-total overflow_mul-j overflow_sub-levels loop-levels-smaller loop-levels-preserved returns)
