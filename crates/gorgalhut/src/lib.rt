@@ -1,4 +1,6 @@
-// The queue's functions, the tally and the frames under their C names, for C and Rust to link.
+// The library: the queue's functions, the tally, the frames and the report of lateness over lent memory, in plain numbers; `gorgalhut_c` gives them to C.
+#![tactic(auto)]
+
 ghost use Rattle.std.specs.Prelude.{◌≡◌, leb, length, ltb, ◌^◌, ◌++◌, ◌≤◌, drop};
 ghost use Rattle.rules.specs.Tests.{◌and◌};
 ghost use Rattle.rules.specs.Answers.{answer_of};
@@ -17,8 +19,7 @@ ghost use Rattle.gorgalhut.specs.Timed.{numbers_of, timed_answer, timed_report};
 use rules::Link;
 
 // Whether the array has a book and the book keeps every book rule.
-#[unsafe(no_mangle)]
-pub extern "C" fn gorgalhut_book_sound(array: &[u64]) -> bool
+pub fn gorgalhut_book_sound(array: &[u64]) -> bool
     ensures { result ≡ (leb book_words (length array.now) and sound (book_of array.now)) }
 {
     if array.len() < Link::BOOK {
@@ -28,13 +29,7 @@ pub extern "C" fn gorgalhut_book_sound(array: &[u64]) -> bool
 }
 
 // Makes an empty queue of so many links.
-#[unsafe(no_mangle)]
-pub extern "C" fn gorgalhut_setup(
-    array: &mut [u64],
-    links: u64,
-    word: &mut u64,
-    steps: &mut u64,
-) -> u8
+pub fn gorgalhut_setup(array: &mut [u64], links: u64, word: &mut u64, steps: &mut u64) -> u8
     ensures { SetUp links array.old array.new result word.new steps.new }
 {
     let made = queue::setup(array, links);
@@ -45,8 +40,7 @@ pub extern "C" fn gorgalhut_setup(
 }
 
 // Puts an entry in, with a work area; `packed` says whether it packed.
-#[unsafe(no_mangle)]
-pub extern "C" fn gorgalhut_insert(
+pub fn gorgalhut_insert(
     array: &mut [u64],
     work: &mut [u64],
     entry: u64,
@@ -65,8 +59,7 @@ pub extern "C" fn gorgalhut_insert(
 }
 
 // Takes the smallest entry held; `word` is the entry.
-#[unsafe(no_mangle)]
-pub extern "C" fn gorgalhut_take(array: &mut [u64], word: &mut u64, steps: &mut u64) -> u8
+pub fn gorgalhut_take(array: &mut [u64], word: &mut u64, steps: &mut u64) -> u8
     ensures { TakenOut array.old array.new result word.new steps.new }
 {
     let taken = queue::take(array);
@@ -77,8 +70,7 @@ pub extern "C" fn gorgalhut_take(array: &mut [u64], word: &mut u64, steps: &mut 
 }
 
 // Looks at the smallest entry held; `word` is the entry.
-#[unsafe(no_mangle)]
-pub extern "C" fn gorgalhut_look(array: &mut [u64], word: &mut u64, steps: &mut u64) -> u8
+pub fn gorgalhut_look(array: &mut [u64], word: &mut u64, steps: &mut u64) -> u8
     ensures { LookedAt array.old array.new result word.new steps.new }
 {
     let seen = queue::look(array);
@@ -89,8 +81,7 @@ pub extern "C" fn gorgalhut_look(array: &mut [u64], word: &mut u64, steps: &mut 
 }
 
 // Says how many entries are held; `word` is their number.
-#[unsafe(no_mangle)]
-pub extern "C" fn gorgalhut_held(array: &[u64], word: &mut u64, steps: &mut u64) -> u8
+pub fn gorgalhut_held(array: &[u64], word: &mut u64, steps: &mut u64) -> u8
     ensures { Counted array.now result word.new steps.new }
 {
     let counted = queue::held(array);
@@ -101,8 +92,7 @@ pub extern "C" fn gorgalhut_held(array: &[u64], word: &mut u64, steps: &mut u64)
 }
 
 // Says whether every entry stands in order.
-#[unsafe(no_mangle)]
-pub extern "C" fn gorgalhut_audit(array: &[u64], word: &mut u64, steps: &mut u64) -> u8
+pub fn gorgalhut_audit(array: &[u64], word: &mut u64, steps: &mut u64) -> u8
     ensures { Audited array.now result word.new steps.new }
 {
     let audited = queue::audit(array);
@@ -113,6 +103,7 @@ pub extern "C" fn gorgalhut_audit(array: &[u64], word: &mut u64, steps: &mut u64
 }
 
 // The call of a number, which is its code in a frame.
+#[tactic(auto, unfolding(crate::specs::Numbered::call_of))]
 fn call_of(number: u8) -> tally::Call
     ensures { result ≡ call_of number }
 {
@@ -126,6 +117,7 @@ fn call_of(number: u8) -> tally::Call
     }
 }
 
+#[tactic(auto, unfolding(rules::specs::Answers::answer_of))]
 fn answer_of(number: u8) -> rules::Answer
     ensures { result ≡ answer_of number }
 {
@@ -144,8 +136,7 @@ fn answer_of(number: u8) -> rules::Answer
 }
 
 // Adds a call to the day's tally; says no, and adds nothing, where a number names no call or no answer.
-#[unsafe(no_mangle)]
-pub extern "C" fn gorgalhut_tally_add(
+pub fn gorgalhut_tally_add(
     inserts: &mut u64,
     takes: &mut u64,
     steps: &mut u64,
@@ -187,8 +178,7 @@ pub extern "C" fn gorgalhut_tally_add(
 const NOT_A_FRAME: u8 = 10;
 
 // Reads a line without its 0A: the order's code and the number in its body.
-#[unsafe(no_mangle)]
-pub extern "C" fn gorgalhut_read_frame(line: &[u8], kind: &mut u8, value: &mut u64) -> u8
+pub fn gorgalhut_read_frame(line: &[u8], kind: &mut u8, value: &mut u64) -> u8
     ensures { FrameRead line.now result kind.new value.new }
 {
     match frames::read(line) {
@@ -206,6 +196,7 @@ pub extern "C" fn gorgalhut_read_frame(line: &[u8], kind: &mut u8, value: &mut u
 }
 
 // The order of a code and the number in its body, if the body has room for it.
+#[tactic(auto, unfolding(crate::specs::Framed::asked, frames::specs::Orders::order_of))]
 fn asked(kind: u8, value: u64) -> frames::ReadFrame
     ensures { read_back result ≡ asked kind value }
 {
@@ -231,13 +222,7 @@ fn asked(kind: u8, value: u64) -> frames::ReadFrame
 }
 
 // Writes an order's digits without 0A; `written` is how many.
-#[unsafe(no_mangle)]
-pub extern "C" fn gorgalhut_write_frame(
-    kind: u8,
-    value: u64,
-    out: &mut [u8],
-    written: &mut usize,
-) -> u8
+pub fn gorgalhut_write_frame(kind: u8, value: u64, out: &mut [u8], written: &mut usize) -> u8
     ensures { FrameWritten kind value out.old out.new result written.new }
 {
     match asked(kind, value) {
@@ -259,8 +244,7 @@ pub extern "C" fn gorgalhut_write_frame(
 }
 
 // Writes the line that answers a call, with its 0A; `written` is how many bytes.
-#[unsafe(no_mangle)]
-pub extern "C" fn gorgalhut_answer_line(
+pub fn gorgalhut_answer_line(
     answer: u8,
     word: u64,
     steps: u64,
@@ -307,13 +291,7 @@ fn lay_row(report: &mut [i64], row: lateness::Row)
 }
 
 // A day's report from pairs of due and acting tick, each with a door byte: six numbers for both, for left and for right.
-#[unsafe(no_mangle)]
-pub extern "C" fn gorgalhut_lateness(
-    due: &[u32],
-    acting: &[u32],
-    doors: &[u8],
-    report: &mut [i64],
-) -> u8
+pub fn gorgalhut_lateness(due: &[u32], acting: &[u32], doors: &[u8], report: &mut [i64]) -> u8
     ensures value { result ≡ timed_answer due.now acting.now doors.now report.old }
     ensures report_after { report.new ≡ timed_report due.now acting.now doors.now report.old }
 {
