@@ -1,4 +1,4 @@
-//! Tells the linker of the program `joins` where its library is: in GORGALHUT_LIB_DIR, or where `rt staticlib joins` writes it.
+//! Tells the linker of the program `joins` where its library is: in GORGALHUT_LIB_DIR, or where `tools/build joins` writes it.
 
 use std::env::{var, var_os};
 use std::path::PathBuf;

@@ -1,4 +1,4 @@
-//! Tells the linker where the static library is: in GORGALHUT_LIB_DIR, or where `rt staticlib gorgalhut` writes it.
+//! Tells the linker where the static library is: in GORGALHUT_LIB_DIR, or where `tools/build gorgalhut` writes it.
 
 use std::env::{var, var_os};
 use std::path::PathBuf;
@@ -11,7 +11,7 @@ fn main() {
     let archive = directory.join("libgorgalhut.a");
     if !archive.exists() {
         eprintln!(
-            "{} is missing: rt staticlib gorgalhut makes it",
+            "{} is missing: tools/build gorgalhut makes it",
             archive.display()
         );
         std::process::exit(1);
