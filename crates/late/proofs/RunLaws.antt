@@ -7,18 +7,20 @@ use mathlib.Core.List.{List, [], ◌++◌, flatten, append-nil}
 use native.Mathlib.Omega.{arith}
 use lib.ListN.{length, take, length-append}
 use Rattle.std.specs.Prelude.{IfSome, Option, None, Some}
-use Rattle.std.proofs.Common.{append_assoc}
 use Rattle.std.specs.Io.KnownBytes.{Consumes, IsAtEnd}
+use Rattle.std.proofs.KnownBytes.{Consumes-nil, Consumes-trans}
+use Rattle.streams.specs.Fronts.{ConsumesFront}
 use Rattle.lines.specs.Cutter.{kept_after}
 use Rattle.pairs.specs.Reads.{reads_of, reads_from, last_reads}
-use Rattle.pairs.specs.State.{State, lines_after}
+use Rattle.pairs.specs.State.{State, state_of, lines_after}
+use Rattle.pairs.specs.declared.Heard.{Heard as Heard'}
 use Rattle.pairs.specs.Kept.{Kept}
 use Rattle.pairs.specs.Calls.{HeardSoFar, Fed}
 use Rattle.pairs.proofs.CallLaws.{so_begins, so_on, so_ends, fed_kept}
 use Rattle.text.specs.Laid.{Laid}
 use Rattle.text.proofs.LaidLaws.{laid_reads}
 use Rattle.late.specs.Says.{Says, says, state_said}
-use Rattle.late.specs.Runs.{Told, TellsHeard, HearsPiece}
+use Rattle.late.specs.Runs.{Told, ToldFront, TellsHeard, TellsFront, HearsPiece, PairsOf}
 use Rattle.late.proofs.SaidLaws.{kept_said_lem}
 
 -- the last line is read, behind bytes that were heard in any pieces
@@ -49,24 +51,14 @@ pub record Heard (n : ℕ) (begun : State) (left left' : Option (List ℕ)) (s :
   pub so : HeardSoFar begun bytes s k
   pub long : n ≤ length bytes
 
-consumes_none : (left : Option (List ℕ)) → Consumes left left []
-consumes_none None = tt
-consumes_none (Some xs) = refl
-
-consumes_more : (left left₁ left₂ : Option (List ℕ)) (bytes piece : List ℕ) → Consumes left left₁ bytes → Consumes left₁ left₂ piece → Consumes left left₂ (bytes ++ piece)
-consumes_more None left₁ left₂ bytes piece c d = tt
-consumes_more (Some xs) None left₂ bytes piece c d = absurd c
-consumes_more (Some xs) (Some ys) None bytes piece c d = absurd d
-consumes_more (Some xs) (Some ys) (Some zs) bytes piece c d = c ∙ ap (λ (b : List ℕ). bytes ++ b) d ∙ sym (append_assoc bytes piece zs)
-
 pub heard_none : (begun : State) (left : Option (List ℕ)) {k : List ℕ} → k ≡ [] → Heard 0 begun left left begun k
-heard_none begun left e = rw e record { bytes = []; consumed = consumes_none left; so = so_begins begun; long = omega arith }
+heard_none begun left e = rw e record { bytes = []; consumed = Consumes-nil left; so = so_begins begun; long = omega arith }
 
 pub heard_more : {n : ℕ} {begun s s' : State} {k k' : List ℕ} {left left₁ left₂ : Option (List ℕ)} {ended : Bool} → Heard n begun left left₁ s k → HearsPiece s k s' k' left₁ left₂ ended → ended ≡ false
     → Heard (n + 1) begun left left₂ s' k'
 heard_more h p on = record {
   bytes = h.bytes ++ p.piece;
-  consumed = consumes_more _ _ _ _ _ h.consumed p.consumed;
+  consumed = Consumes-trans _ _ _ _ _ h.consumed p.consumed;
   so = so_on h.so p.piece p.state p.keeps;
   long = omega (arith, h.long, p.some on, length-append h.bytes p.piece);
 }
@@ -74,19 +66,27 @@ heard_more h p on = record {
 pub heard_last : {n : ℕ} {begun s s' : State} {k k' : List ℕ} {left left₁ left₂ : Option (List ℕ)} {ended : Bool} → Heard n begun left left₁ s k → HearsPiece s k s' k' left₁ left₂ ended → Heard n begun left left₂ s' k'
 heard_last h p = record {
   bytes = h.bytes ++ p.piece;
-  consumed = consumes_more _ _ _ _ _ h.consumed p.consumed;
+  consumed = Consumes-trans _ _ _ _ _ h.consumed p.consumed;
   so = so_on h.so p.piece p.state p.keeps;
   long = omega (arith, h.long, length-append h.bytes p.piece);
 }
 
 -- at the end all bytes have been heard
-pub all_told : (most : ℕ) {n : ℕ} {begun s : State} {k : List ℕ} {left left' out out' err err' : Option (List ℕ)} → Kept [] begun → Heard n begun left left' s k → IsAtEnd left'
-    → TellsHeard s k out out' err err' → IfSome left (λ bytes. length bytes < most → Told (says (reads_of bytes)) out out' err err')
-all_told most {left = None} kept h end tells = tt
-all_told most {left = Some xs} {left' = None} kept h end tells = absurd h.consumed
-all_told most {left = Some xs} {left' = Some ys} {out} {out'} {err} {err'} kept h end tells =
-    let all : h.bytes ≡ xs = sym (h.consumed ∙ ap (λ (b : List ℕ). h.bytes ++ b) end ∙ append-nil h.bytes) in
-    λ short. subst (λ (b : List ℕ). Told (says (reads_of b)) out out' err err') all (tells _ _ kept h.so)
+module _ (P : Says → Type 0) (most : ℕ) {n : ℕ} {begun s : State} {k : List ℕ} where
+  all_heard : {left left' : Option (List ℕ)} → Kept [] begun → Heard n begun left left' s k → IsAtEnd left'
+      → ((begun : State) → (bytes : List ℕ) → Kept [] begun → HeardSoFar begun bytes s k → P (says (reads_of bytes))) → IfSome left (λ bytes. length bytes < most → P (says (reads_of bytes)))
+  all_heard {left = None} kept h end tells = tt
+  all_heard {left = Some xs} {left' = None} kept h end tells = absurd h.consumed
+  all_heard {left = Some xs} {left' = Some ys} kept h end tells =
+      let all : h.bytes ≡ xs = sym (h.consumed ∙ ap (λ (b : List ℕ). h.bytes ++ b) end ∙ append-nil h.bytes) in
+      λ short. subst (λ (b : List ℕ). P (says (reads_of b))) all (tells _ _ kept h.so)
+
+module _ (most : ℕ) {n : ℕ} {begun s : State} {k : List ℕ} {left left' out out' err err' : Option (List ℕ)} (kept : Kept [] begun) (h : Heard n begun left left' s k) (end : IsAtEnd left') where
+  pub all_told : TellsHeard s k out out' err err' → IfSome left (λ bytes. length bytes < most → Told (says (reads_of bytes)) out out' err err')
+  all_told = all_heard (λ s. Told s out out' err err') most kept h end
+
+  pub front_told : TellsFront s k out out' err err' → IfSome left (λ bytes. length bytes < most → ToldFront (says (reads_of bytes)) out out' err err')
+  front_told = all_heard (λ s. ToldFront s out out' err err') most kept h end
 
 -- an input shorter than the turns has ended before they are used up
 pub never : (most : ℕ) {n : ℕ} {begun s : State} {k : List ℕ} {left left' : Option (List ℕ)} (out out' err err' : Option (List ℕ)) → Heard n begun left left' s k → most ≤ n
@@ -94,6 +94,9 @@ pub never : (most : ℕ) {n : ℕ} {begun s : State} {k : List ℕ} {left left' 
 never most {left = None} out out' err err' h all = tt
 never most {left = Some xs} {left' = None} out out' err err' h all = absurd h.consumed
 never most {left = Some xs} {left' = Some ys} out out' err err' h all = λ short. absurd (omega (arith, h.long, ap length h.consumed, length-append h.bytes ys))
+
+pub heard_so_far : {n : ℕ} {begun s : State} {k : List ℕ} {left left' : Option (List ℕ)} → Heard n begun left left' s k → ConsumesFront left left'
+heard_so_far h = (h.bytes, h.consumed)
 
 -- what is handed over to be written, and as what
 pub handed : {begun s s' : State} {bytes k : List ℕ} {refused : Bool} {before after : List ℕ} {end : ℕ} → Kept [] begun → HeardSoFar begun bytes s k → s' ≡ lines_after s (last_reads k)
@@ -103,6 +106,13 @@ handed kept so e r laid = same r (laid_reads laid) ∙ so_said kept so e
     same : {refused : Bool} {text : List ℕ} {s : Says} → refused ≡ s.refused → text ≡ s.text → record { refused = refused; text = text } ≡ s
     same r t = rw (r, t) refl
 
-pub answered : {s s' : State} {k : List ℕ} {refused : Bool} {before after : List ℕ} {end : ℕ} {out out' err err' : Option (List ℕ)} → s' ≡ lines_after s (last_reads k)
-    → refused ≡ (state_said s').refused → Laid (state_said s').text 0 before after end → Told (record { refused = refused; text = take end after }) out out' err err' → TellsHeard s k out out' err err'
-answered {out = out} {out'} {err} {err'} e r laid told begun bytes kept so = subst (λ (s : Says). Told s out out' err err') (handed kept so e r laid) told
+module _ {s s' : State} {k : List ℕ} {refused : Bool} {before after : List ℕ} {end : ℕ} {out out' err err' : Option (List ℕ)} (e : s' ≡ lines_after s (last_reads k))
+    (r : refused ≡ (state_said s').refused) (laid : Laid (state_said s').text 0 before after end) where
+  pub answered : Told (record { refused = refused; text = take end after }) out out' err err' → TellsHeard s k out out' err err'
+  answered told begun bytes kept so = subst (λ (s : Says). Told s out out' err err') (handed kept so e r laid) told
+
+  pub answered_front : ToldFront (record { refused = refused; text = take end after }) out out' err err' → TellsFront s k out out' err err'
+  answered_front told begun bytes kept so = subst (λ (s : Says). ToldFront s out out' err err') (handed kept so e r laid) told
+
+pub pairs_after : {due acting doors : List ℕ} (h : Heard') {s : State} → state_of due acting doors h ≡ s → PairsOf due acting doors s
+pairs_after h e = (ap (λ (s : State). s.due) e, ap (λ (s : State). s.acting) e, ap (λ (s : State). s.doors) e)

@@ -1,6 +1,7 @@
 -- A run of `late`: what is heard of its input, and what it tells on standard output and standard error.
 use Rattle.std.specs.Prelude.{ℕ, ◌≡◌, ◌<◌, Bool, true, false, cond, List, [], length, Option}
 use Rattle.std.specs.Io.KnownBytes.{Appends, Consumes, IsAtEnd}
+use Rattle.streams.specs.Fronts.{AppendsFront}
 use Rattle.lines.specs.Cutter.{kept_after}
 use Rattle.pairs.specs.Reads.{reads_from, reads_of}
 use Rattle.pairs.specs.State.{State, lines_after}
@@ -12,6 +13,11 @@ use Rattle.late.specs.Says.{Says, says}
 pub record Told (s : Says) (out out' err err' : Option (List ℕ)) : Type 0 where
   pub reported : Appends out out' (cond s.refused [] s.text)
   pub refused : Appends err err' (cond s.refused s.text [])
+
+-- what of it has been told before an error: a front, which may be none of it or all
+pub record ToldFront (s : Says) (out out' err err' : Option (List ℕ)) : Type 0 where
+  pub reported : AppendsFront out out' (cond s.refused [] s.text)
+  pub refused : AppendsFront err err' (cond s.refused s.text [])
 
 -- one read: these bytes are consumed and heard; the input has ended only where none are left, and else there are some
 pub record HearsPiece (s : State) (k : List ℕ) (s' : State) (k' : List ℕ) (left left' : Option (List ℕ)) (ended : Bool) : Type 0 where
@@ -25,3 +31,10 @@ pub record HearsPiece (s : State) (k : List ℕ) (s' : State) (k' : List ℕ) (l
 -- where these bytes have been heard, from an empty beginning, what is told is what `says` says of their lines
 abbrev pub TellsHeard : State → List ℕ → (out out' err err' : Option (List ℕ)) → Type 0
 TellsHeard s k out out' err err' = (begun : State) → (bytes : List ℕ) → Kept [] begun → HeardSoFar begun bytes s k → Told (says (reads_of bytes)) out out' err err'
+
+abbrev pub TellsFront : State → List ℕ → (out out' err err' : Option (List ℕ)) → Type 0
+TellsFront s k out out' err err' = (begun : State) → (bytes : List ℕ) → Kept [] begun → HeardSoFar begun bytes s k → ToldFront (says (reads_of bytes)) out out' err err'
+
+-- the three lent arrays have the pairs of this state
+abbrev pub PairsOf : List ℕ → List ℕ → List ℕ → State → Type 0
+PairsOf due acting doors s = (due ≡ s.due) × (acting ≡ s.acting) × (doors ≡ s.doors)

@@ -1,16 +1,18 @@
 // Reads pairs, one a line, to the end of standard input, and prints how punctual each door was, or why it does not.
 #![tactic(auto)]
 
-ghost use Rattle.std.specs.Prelude.{◌≡◌, true, false, ◌++◌, ◌+◌, ◌≤◌, length, OnOk, OnErr, IfOk, MatchBool, IfSome, ◌<◌};
+ghost use Rattle.std.specs.Prelude.{◌≡◌, true, false, ◌++◌, ◌+◌, ◌≤◌, length, OnOk, OnErr, IfOk, MatchBool, IfSome, ◌<◌, ◌⊎◌};
+ghost use Rattle.std.specs.Io.KnownBytes.{Keeps};
+ghost use Rattle.streams.specs.Fronts.{ConsumesFront};
 ghost use Rattle.lateness.specs.Reports.{Few, Small, report_of};
-ghost use Rattle.pairs.specs.State.{Room, state_of};
-ghost use Rattle.pairs.specs.Reads.{reads_of};
+ghost use Rattle.pairs.specs.State.{Room, state_of, lines_after};
+ghost use Rattle.pairs.specs.Reads.{reads_of, last_reads};
 ghost use Rattle.lines.specs.Cutter.{kept};
 ghost use Rattle.text.specs.Decimal.{decimal, signed};
 ghost use Rattle.text.specs.Laid.{Laid};
 ghost use Rattle.late.specs.Lines.{seen_text, mean_text, row_line, report_lines, too_many_lines, no_pair, door_above};
 ghost use Rattle.late.specs.Says.{kept_said, says};
-ghost use Rattle.late.specs.Runs.{Told, TellsHeard, HearsPiece};
+ghost use Rattle.late.specs.Runs.{Told, ToldFront, TellsHeard, TellsFront, HearsPiece, PairsOf};
 
 use lateness::{Report, Row, Seen};
 use pairs::Heard;
@@ -187,12 +189,13 @@ fn write_out<W: Write, E: Write>(
     text: &[u8],
 ) -> io::Result<()>
     ensures ok { OnOk result (Told (record { refused = refused; text = text.now }) (W.contents output.old) (W.contents output.new) (E.contents errors.old) (E.contents errors.new)) }
-    ensures err { OnErr result (MatchBool refused (output.new ≡ output.old) (errors.new ≡ errors.old)) }
+    ensures err { OnErr result (ToldFront (record { refused = refused; text = text.now }) (W.contents output.old) (W.contents output.new) (E.contents errors.old) (E.contents errors.new)) }
+    ensures other { MatchBool refused (output.new ≡ output.old) (errors.new ≡ errors.old) }
 {
     if refused {
-        return errors.write_all(text);
+        return streams::write_whole(errors, text);
     }
-    output.write_all(text)
+    streams::write_whole(output, text)
 }
 
 // Reads once, and hears what came.
@@ -205,7 +208,7 @@ fn read_piece<R: Read>(
 ) -> io::Result<Went>
     requires { Room due.old acting.old doors.old }
     ensures ok { IfOk result (λ w. HearsPiece (state_of due.old acting.old doors.old heard) (kept heard.cutter) (state_of due.new acting.new doors.new w.heard) (kept w.heard.cutter) (R.remaining input.old) (R.remaining input.new) w.ended) }
-    ensures err { OnErr result ((due.new ≡ due.old) × (acting.new ≡ acting.old) × (doors.new ≡ doors.old)) }
+    ensures err { OnErr result (Keeps (R.remaining input.old) (R.remaining input.new) × (due.new ≡ due.old) × (acting.new ≡ acting.old) × (doors.new ≡ doors.old)) }
 {
     let mut piece = [0u8; 65536];
     let n = input.read(&mut piece)?;
@@ -228,7 +231,10 @@ fn answer<W: Write, E: Write>(
     heard: Heard,
 ) -> io::Result<()>
     requires { Room due.old acting.old doors.old }
-    ensures { OnOk result (TellsHeard (state_of due.old acting.old doors.old heard) (kept heard.cutter) (W.contents output.old) (W.contents output.new) (E.contents errors.old) (E.contents errors.new)) }
+    ensures ok { OnOk result (TellsHeard (state_of due.old acting.old doors.old heard) (kept heard.cutter) (W.contents output.old) (W.contents output.new) (E.contents errors.old) (E.contents errors.new)) }
+    ensures err { OnErr result (TellsFront (state_of due.old acting.old doors.old heard) (kept heard.cutter) (W.contents output.old) (W.contents output.new) (E.contents errors.old) (E.contents errors.new)) }
+    ensures other { (output.new ≡ output.old) ⊎ (errors.new ≡ errors.old) }
+    ensures pairs { PairsOf due.new acting.new doors.new (lines_after (state_of due.old acting.old doors.old heard) (last_reads (kept heard.cutter))) }
 {
     let mut out = [0u8; 690];
     let all = pairs::finish(due, acting, doors, heard);
@@ -240,7 +246,10 @@ fn answer<W: Write, E: Write>(
 // Reads to the end of the input, and tells of its lines. A proved loop has to end, and nothing says that the input does:
 // it takes more turns than any run uses up, and each but the last reads a byte at least.
 fn run<R: Read, W: Write, E: Write>(input: &mut R, output: &mut W, errors: &mut E) -> io::Result<()>
-    ensures { OnOk result (IfSome (R.remaining input.old) (λ bytes. length bytes < u64.MAX → Told (says (reads_of bytes)) (W.contents output.old) (W.contents output.new) (E.contents errors.old) (E.contents errors.new))) }
+    ensures ok { OnOk result (IfSome (R.remaining input.old) (λ bytes. length bytes < u64.MAX → Told (says (reads_of bytes)) (W.contents output.old) (W.contents output.new) (E.contents errors.old) (E.contents errors.new))) }
+    ensures err { OnErr result (IfSome (R.remaining input.old) (λ bytes. length bytes < u64.MAX → ToldFront (says (reads_of bytes)) (W.contents output.old) (W.contents output.new) (E.contents errors.old) (E.contents errors.new))) }
+    ensures other { (output.new ≡ output.old) ⊎ (errors.new ≡ errors.old) }
+    ensures read { ConsumesFront (R.remaining input.old) (R.remaining input.new) }
 {
     let mut due = [0u32; 4096];
     let mut acting = [0u32; 4096];

@@ -1,8 +1,9 @@
 // Prints how large a queue of so many links is, and how long one call on it can run: a line for each number of links.
 #![tactic(auto)]
 
-ghost use Rattle.std.specs.Prelude.{◌≡◌, ◌++◌, ◌+◌, ◌*◌, ◌≤◌, ◌<◌, length, OnOk};
+ghost use Rattle.std.specs.Prelude.{◌≡◌, ◌++◌, ◌+◌, ◌*◌, ◌≤◌, ◌<◌, length, OnOk, OnErr};
 ghost use Rattle.std.specs.Io.KnownBytes.{Appends};
+ghost use Rattle.streams.specs.Fronts.{AppendsFront};
 ghost use Rattle.rules.specs.Links.{k, height, capacity, LinkNumber};
 ghost use Rattle.rules.specs.Tree.{k_merger};
 ghost use Rattle.rules.specs.Bounds.{per_insert, per_packing};
@@ -175,11 +176,12 @@ fn lay_lines(out: &mut [u8]) -> usize
 
 // Writes the lines out.
 fn write_lines<W: Write>(output: &mut W) -> io::Result<()>
-    ensures { OnOk result (Appends (W.contents output.old) (W.contents output.new) (lines_to 5)) }
+    ensures ok { OnOk result (Appends (W.contents output.old) (W.contents output.new) (lines_to 5)) }
+    ensures err { OnErr result (AppendsFront (W.contents output.old) (W.contents output.new) (lines_to 5)) }
 {
     let mut out = [0u8; 1255];
     let end = lay_lines(&mut out);
-    output.write_all(&out[..end])
+    streams::write_whole(output, &out[..end])
 }
 
 fn main(rt: HostRuntime) -> io::Result<()> {

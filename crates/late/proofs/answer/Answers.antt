@@ -1,9 +1,17 @@
 -- What is said is handed over to be written.
-use Rattle.std.proofs.lemmas.Result.{on_ok_weaker}
-use Rattle.late.proofs.RunLaws.{answered}
+use Rattle.std.proofs.lemmas.Result.{on_ok_weaker, on_err_weaker}
+use Rattle.late.proofs.RunLaws.{answered, answered_front, pairs_after}
 use Rattle.late.proofs.answer.Goals as goal
 
-pub returns : goal.returns
-returns g c =
+pub returns-clause-ok : goal.returns-clause-ok
+returns-clause-ok g c =
     let said = c.say-said.ensures in
     on_ok_weaker _ (answered c.finish-all.ensures.result_after said.refused_value said.laid) c.write_out.ensures.ok
+
+pub returns-clause-err : goal.returns-clause-err
+returns-clause-err g c =
+    let said = c.say-said.ensures in
+    on_err_weaker _ (answered_front c.finish-all.ensures.result_after said.refused_value said.laid) c.write_out.ensures.err
+
+pub returns-clause-pairs : goal.returns-clause-pairs
+returns-clause-pairs g c = pairs_after c.finish-all.result c.finish-all.ensures.result_after

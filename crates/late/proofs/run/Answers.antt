@@ -2,9 +2,9 @@
 use mathlib.Core.Path.{refl}
 use native.Mathlib.Omega.{arith}
 use borrow.Author.Rules.{rules}
-use Rattle.std.proofs.lemmas.Result.{on_ok_weaker}
+use Rattle.std.proofs.lemmas.Result.{on_ok_weaker, on_err_weaker}
 use Rattle.pairs.proofs.KeptLaws.{begins}
-use Rattle.late.proofs.RunLaws.{heard_none, heard_more, heard_last, all_told, never}
+use Rattle.late.proofs.RunLaws.{heard_none, heard_more, heard_last, heard_so_far, all_told, front_told, never}
 use Rattle.late.proofs.run.Goals as goal
 
 pub loop-turn-init : goal.loop-turn-init
@@ -25,11 +25,25 @@ loop-turn-preserved g c = record {
   errors_kept = c.loop-turn.invariant.errors_kept;
 }
 
-pub returns-then-went : goal.returns-then-went
-returns-then-went g c =
+pub returns-then-went-clause-ok : goal.returns-then-went-clause-ok
+returns-then-went-clause-ok g c =
     let before = c.loop-turn.invariant in
     let piece = c.in_ok-went.ensures.ok in
-    rw (← before.output_kept, ← before.errors_kept) (on_ok_weaker _ (λ tells. all_told _ before.begins (heard_last before.heard piece) (piece.at_end c.if-went.true) tells) c.answer.ensures)
+    rw (← before.output_kept, ← before.errors_kept) (on_ok_weaker _ (λ tells. all_told _ before.begins (heard_last before.heard piece) (piece.at_end c.if-went.true) tells) c.answer.ensures.ok)
 
-pub returns : goal.returns
-returns g c = never _ _ _ _ _ c.loop-turn.invariant.heard (omega arith)
+pub returns-then-went-clause-err : goal.returns-then-went-clause-err
+returns-then-went-clause-err g c =
+    let before = c.loop-turn.invariant in
+    let piece = c.in_ok-went.ensures.ok in
+    rw (← before.output_kept, ← before.errors_kept) (on_err_weaker _ (λ tells. front_told _ before.begins (heard_last before.heard piece) (piece.at_end c.if-went.true) tells) c.answer.ensures.err)
+
+pub returns-then-went-clause-other : goal.returns-then-went-clause-other
+returns-then-went-clause-other g c =
+    let before = c.loop-turn.invariant in
+    rw (← before.output_kept, ← before.errors_kept) c.answer.ensures.other
+
+pub returns-then-went-clause-read : goal.returns-then-went-clause-read
+returns-then-went-clause-read g c = heard_so_far (heard_last c.loop-turn.invariant.heard c.in_ok-went.ensures.ok)
+
+pub returns-clause-ok : goal.returns-clause-ok
+returns-clause-ok g c = never _ _ _ _ _ c.loop-turn.invariant.heard (omega arith)
