@@ -1,13 +1,17 @@
 // Runs frames: reads standard input to its end, and answers each line on standard output.
 #![tactic(auto)]
 
-ghost use Rattle.std.specs.Prelude.{◌≤◌, length};
+ghost use Rattle.std.specs.Prelude.{◌≤◌, length, OnOk, OnErr, IfOk};
+ghost use Rattle.std.specs.Io.KnownBytes.{Appends};
+ghost use Rattle.streams.specs.Fronts.{AppendsFront};
+ghost use Rattle.lines.specs.Cutter.{kept, last_of};
+ghost use Rattle.gate.specs.Runs.{Answered, AnsweredFront, AnswersPiece, StopsIn, ReadsPiece, Stops};
 
 use frames::Written;
 use lines::Cutter;
 use rules::Link;
 use std::io;
-use std::io::{Print, Read, Stdin, Stdout};
+use std::io::{Read, Write};
 
 // The line so far; whether the input has ended.
 #[derive(Clone, Copy)]
@@ -17,13 +21,16 @@ pub struct Went {
 }
 
 // Writes answers out.
-fn write_out(stdout: Stdout, answers: &[u8]) -> io::Result<()> {
-    stdout.write_all(answers)
+fn write_out<W: Write>(output: &mut W, answers: &[u8]) -> io::Result<()>
+    ensures ok { OnOk result (Appends (W.contents output.old) (W.contents output.new) answers.now) }
+    ensures err { OnErr result (AppendsFront (W.contents output.old) (W.contents output.new) answers.now) }
+{
+    streams::write_whole(output, answers)
 }
 
 // Answers the lines of a piece. The answers are written out whenever the buffer is full, and at the end.
-fn answer_piece(
-    stdout: Stdout,
+fn answer_piece<W: Write>(
+    output: &mut W,
     a: &mut [u64],
     work: &mut [u64],
     cutter: Cutter,
@@ -31,6 +38,8 @@ fn answer_piece(
     out: &mut [u8],
 ) -> io::Result<Cutter>
     requires { 27 ≤ length out.old }
+    ensures ok { IfOk result (λ c. AnswersPiece (length work.old) a.old a.new work.old work.new (kept cutter) (kept c) piece.now (W.contents output.old) (W.contents output.new)) }
+    ensures err { OnErr result (StopsIn (length work.old) a.old a.new work.old work.new (kept cutter) piece.now (W.contents output.old) (W.contents output.new)) }
 {
     let mut so_far = cutter;
     let mut at: usize = 0;
@@ -39,24 +48,26 @@ fn answer_piece(
         let written = ran.written;
         so_far = ran.cutter;
         at = ran.at;
-        write_out(stdout, &out[..written])?;
+        write_out(output, &out[..written])?;
     }
     Ok(so_far)
 }
 
 // Reads once, and answers what came.
-fn read_piece(
-    mut stdin: Stdin,
-    stdout: Stdout,
+fn read_piece<R: Read, W: Write>(
+    input: &mut R,
+    output: &mut W,
     a: &mut [u64],
     work: &mut [u64],
     cutter: Cutter,
     out: &mut [u8],
 ) -> io::Result<Went>
     requires { 27 ≤ length out.old }
+    ensures ok { IfOk result (λ w. ReadsPiece (length work.old) a.old a.new work.old work.new (kept cutter) (kept w.cutter) (R.remaining input.old) (R.remaining input.new) (W.contents output.old) (W.contents output.new) w.ended) }
+    ensures err { OnErr result (Stops (length work.old) a.old a.new work.old work.new (kept cutter) (R.remaining input.old) (R.remaining input.new) (W.contents output.old) (W.contents output.new)) }
 {
     let mut piece = [0u8; 65536];
-    let n = stdin.read(&mut piece)?;
+    let n = input.read(&mut piece)?;
     if n == 0 {
         return Ok(Went {
             cutter,
@@ -64,16 +75,24 @@ fn read_piece(
         });
     }
     Ok(Went {
-        cutter: answer_piece(stdout, a, work, cutter, &piece[..n], out)?,
+        cutter: answer_piece(output, a, work, cutter, &piece[..n], out)?,
         ended: false,
     })
 }
 
 // Answers a last line without its line end.
-fn answer_last(stdout: Stdout, a: &mut [u64], work: &mut [u64], cutter: Cutter) -> io::Result<()> {
+fn answer_last<W: Write>(
+    output: &mut W,
+    a: &mut [u64],
+    work: &mut [u64],
+    cutter: Cutter,
+) -> io::Result<()>
+    ensures ok { OnOk result (Answered (length work.old) a.old a.new work.old work.new (last_of (kept cutter)) (W.contents output.old) (W.contents output.new)) }
+    ensures err { OnErr result (AnsweredFront (length work.old) a.old a.new work.old work.new (last_of (kept cutter)) (W.contents output.old) (W.contents output.new)) }
+{
     let mut out = [0u8; 27];
     match sessions::finish(a, work, cutter, &mut out) {
-        Written::Bytes(n) => write_out(stdout, &out[..n]),
+        Written::Bytes(n) => write_out(output, &out[..n]),
         Written::Refused => Ok(()),
     }
 }
@@ -85,10 +104,17 @@ fn main(rt: HostRuntime) -> io::Result<()> {
     let mut out = [0u8; 27648];
     let mut cutter = Cutter::new();
     for _ in 0..u64::MAX {
-        let went = read_piece(rt.stdin(), rt.stdout(), &mut a, &mut work, cutter, &mut out)?;
+        let went = read_piece(
+            &mut rt.stdin(),
+            &mut rt.stdout(),
+            &mut a,
+            &mut work,
+            cutter,
+            &mut out,
+        )?;
         cutter = went.cutter;
         if went.ended {
-            return answer_last(rt.stdout(), &mut a, &mut work, cutter);
+            return answer_last(&mut rt.stdout(), &mut a, &mut work, cutter);
         }
     }
     Ok(())

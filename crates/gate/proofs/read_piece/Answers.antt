@@ -1,0 +1,13 @@
+-- A read that gives nothing tells that the input has ended, and one that fails leaves all as it was.
+use native.Mathlib.Omega.{arith}
+use Rattle.std.proofs.lemmas.Result.{err_from_is_err_and}
+use Rattle.gate.proofs.RunLaws.{none_read, failed_read}
+use Rattle.gate.proofs.read_piece.Goals as goal
+
+pub returns-in_err-n-clause-err : goal.returns-in_err-n-clause-err
+returns-in_err-n-clause-err g c =
+    let p = err_from_is_err_and c.from_residual.result c.from_residual.ensures.1 in
+    rw p.1 (failed_read _ _ _ _ _ _ _ c.in_err-n.ensures.bytes)
+
+pub returns-then-n-eq0-clause-ok : goal.returns-then-n-eq0-clause-ok
+returns-then-n-eq0-clause-ok g c = none_read _ _ (omega arith) (omega arith) c.in_ok-n.ensures.bytes
