@@ -36,7 +36,7 @@ pub record ReadsPiece (n : ℕ) (ws ws' work work' k k' : List ℕ) (left left' 
   pub at_end : ended ≡ true → IsAtEnd left'
   pub some : ended ≡ false → 0 < length piece
 
--- an error of reading, which leaves no piece, or of writing
+-- an error of reading or writing: some bytes are consumed, perhaps none, and of them, as a piece, the lines that end among the first have been answered
 pub record Stops (n : ℕ) (ws ws' work work' k : List ℕ) (left left' out out' : Option (List ℕ)) : Type 0 where
   pub piece : List ℕ
   pub consumed : Consumes left left' piece
