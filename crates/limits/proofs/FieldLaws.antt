@@ -1,10 +1,7 @@
--- A label and a number that are laid are a field of the line.
-use Prim.Native.Nat.{ℕ, zero, suc, ◌+◌, ◌-◌, ◌*◌, ◌≤◌, ◌<◌}
+-- Labels and numbers, one behind the other, are the line.
+use Rattle.std.proofs.Common.{ℕ, zero, suc, ◌+◌, ◌-◌, arith, ◌≤◌, ◌<◌, ◌≡◌, refl, sym, ap, ◌∙◌, List, [], ◌++◌}
 use Prim.Native.String.{String}
-use mathlib.Core.Path.{◌≡◌, refl, sym, ap, ◌∙◌, subst}
-use mathlib.Core.List.{List, [], ◌++◌}
-use native.Mathlib.Omega.{arith}
-use lib.ListN.{length}
+use mathlib.Core.List.{append_assoc, append-nil}
 use Rattle.rules.specs.Links.{most_links, most, words}
 use Rattle.rules.specs.Bounds.{per_insert, per_packing}
 use Rattle.rules.specs.Longest.{longest_take, longest_insert}
@@ -12,13 +9,15 @@ use Rattle.rules.proofs.Sizes.{leb-false}
 use Rattle.rules.proofs.Capacity.{leb-true}
 use Rattle.text.specs.Bytes.{bytes}
 use Rattle.text.specs.Decimal.{decimal}
-use Rattle.text.specs.Laid.{Laid}
-use Rattle.text.proofs.LaidLaws.{laid_same_length, laid_none, laid_behind}
 use Rattle.limits.specs.Lines.{field, if_there, sizes, inserts, line, lines_to}
 
-pub as_field : (label : String) {n m at end : ℕ} {before after : List ℕ} → n ≡ m → Laid (bytes label ++ decimal n) at before after end → Laid (field label m) at before after end
+-- two texts, one behind the other, are one behind what was there
+behind : (a one two : List ℕ) {b c : List ℕ} → b ≡ a ++ one → c ≡ b ++ two → c ≡ a ++ (one ++ two)
+behind a one two x y = y ∙ ap (λ l. l ++ two) x ∙ append_assoc a one two
+
+pub as_field : (label : String) (before : List ℕ) {n m : ℕ} {after : List ℕ} → n ≡ m → after ≡ before ++ bytes label ++ decimal n → after ≡ before ++ field label m
 unfolding field
-as_field label {at = at} {end = end} {before = before} {after = after} e laid = subst (λ n. Laid (bytes label ++ decimal n) at before after end) e laid
+as_field label before {n} e laid = laid ∙ append_assoc before (bytes label) (decimal n) ∙ ap (λ n. before ++ (bytes label ++ decimal n)) e
 
 -- ---- of links that a queue can have
 
@@ -30,68 +29,50 @@ not_there : (links : ℕ) (text : List ℕ) → most_links < links → if_there 
 unfolding if_there
 not_there links text high = rw (leb-false links most_links high, if_there) refl
 
-module _ (links : ℕ) {at e₁ e₂ e₃ : ℕ} {a b c d : List ℕ} (low : links ≤ most_links) (inside : at ≤ length a) where
+module _ (links : ℕ) (low : links ≤ most_links) (a : List ℕ) {b c d : List ℕ} where
   -- three texts, one behind the other
-  three : (one two last : List ℕ) → Laid one at a b e₁ → Laid two e₁ b c e₂ → Laid last e₂ c d e₃ → Laid (if_there links (one ++ two ++ last)) at a d e₃
-  three one two last x y z = subst (λ text. Laid text at a d e₃) (sym (there links (one ++ two ++ last) low)) (laid_behind inside (laid_behind inside x y) z)
+  three : (one two last : List ℕ) → b ≡ a ++ one → c ≡ b ++ two → d ≡ c ++ last → d ≡ a ++ if_there links (one ++ two ++ last)
+  three one two last x y z = behind a (one ++ two) last (behind a one two x y) z ∙ ap (λ text. a ++ text) (sym (there links (one ++ two ++ last) low))
 
-  pub sizes_laid : Laid (field "  array " (words links)) at a b e₁ → Laid (field "  work " (most links)) e₁ b c e₂ → Laid (field "  entries " (most links)) e₂ c d e₃ → Laid (sizes links) at a d e₃
+  pub sizes_laid : b ≡ a ++ field "  array " (words links) → c ≡ b ++ field "  work " (most links) → d ≡ c ++ field "  entries " (most links) → d ≡ a ++ sizes links
   unfolding sizes
   sizes_laid = three (field "  array " (words links)) (field "  work " (most links)) (field "  entries " (most links))
 
-  pub inserts_laid : Laid (field "  longest insert " (longest_insert links)) at a b e₁ → Laid (field "  per insert " (per_insert links)) e₁ b c e₂ → Laid (field "  per packing " (per_packing links)) e₂ c d e₃
-      → Laid (inserts links) at a d e₃
+  pub inserts_laid : b ≡ a ++ field "  longest insert " (longest_insert links) → c ≡ b ++ field "  per insert " (per_insert links) → d ≡ c ++ field "  per packing " (per_packing links) → d ≡ a ++ inserts links
   unfolding inserts
   inserts_laid = three (field "  longest insert " (longest_insert links)) (field "  per insert " (per_insert links)) (field "  per packing " (per_packing links))
 
 -- of others there is nothing to lay
-module _ (links at : ℕ) (before : List ℕ) (high : most_links < links) where
-  pub no_sizes : Laid (sizes links) at before before at
-  unfolding sizes
-  no_sizes = subst (λ text. Laid text at before before at) (sym (not_there links (field "  array " (words links) ++ field "  work " (most links) ++ field "  entries " (most links)) high)) (laid_none at before)
+module _ (links : ℕ) (high : most_links < links) (before : List ℕ) where
+  nothing : (text : List ℕ) → before ≡ before ++ if_there links text
+  nothing text = sym (ap (λ t. before ++ t) (not_there links text high) ∙ append-nil before)
 
-  pub no_inserts : Laid (inserts links) at before before at
+  pub no_sizes : before ≡ before ++ sizes links
+  unfolding sizes
+  no_sizes = nothing (field "  array " (words links) ++ field "  work " (most links) ++ field "  entries " (most links))
+
+  pub no_inserts : before ≡ before ++ inserts links
   unfolding inserts
-  no_inserts = subst (λ text. Laid text at before before at) (sym (not_there links (field "  longest insert " (longest_insert links) ++ field "  per insert " (per_insert links) ++ field "  per packing " (per_packing links)) high)) (laid_none at before)
+  no_inserts = nothing (field "  longest insert " (longest_insert links) ++ field "  per insert " (per_insert links) ++ field "  per packing " (per_packing links))
 
 -- ---- the line
 
-pub line_laid : (links : ℕ) {at e₁ e₂ e₃ e₄ e₅ : ℕ} {a b c d e f : List ℕ} → at ≤ length a
-    → Laid (field "links " links) at a b e₁ → Laid (sizes links) e₁ b c e₂ → Laid (field "  longest take " (longest_take links)) e₂ c d e₃ → Laid (inserts links) e₃ d e e₄ → Laid (bytes "\n") e₄ e f e₅
-    → Laid (line links) at a f e₅
+pub line_laid : (links : ℕ) (a : List ℕ) {b c d e f : List ℕ} → b ≡ a ++ field "links " links → c ≡ b ++ sizes links → d ≡ c ++ field "  longest take " (longest_take links) → e ≡ d ++ inserts links → f ≡ e ++ bytes "\n"
+    → f ≡ a ++ line links
 unfolding line
-line_laid links p v w x y z = laid_behind p (laid_behind p (laid_behind p (laid_behind p v w) x) y) z
+line_laid links a v w x y z =
+    let many = field "links " links in
+    let take = field "  longest take " (longest_take links) in
+    let two = behind a many (sizes links) v w in
+    let three = behind a (many ++ sizes links) take two x in
+    let four = behind a (many ++ sizes links ++ take) (inserts links) three y in
+    behind a (many ++ sizes links ++ take ++ inserts links) (bytes "\n") four z
 
--- ---- the lines before that of so many links
-
-pub record Printed (before now : List ℕ) (end links : ℕ) : Type 0 where
-  pub some : 1 ≤ links
-  pub long : length now ≡ length before
-  pub short : end + 251 ≤ 251 * links
-  pub laid : Laid (lines_to (links - 1)) 0 before now end
-
-pub printed_first : (before : List ℕ) → Printed before before 0 1
+-- behind the lines before it
+pub one_more : (links : ℕ) → 1 ≤ links → {before after : List ℕ} → before ≡ lines_to (links - 1) → after ≡ before ++ line links → after ≡ lines_to (links + 1 - 1)
 unfolding lines_to
-printed_first before = record { some = omega arith; long = refl; short = omega arith; laid = laid_none 0 before }
-
-one_more : {before after : List ℕ} {end : ℕ} (n : ℕ) → Laid (lines_to n ++ line (suc n)) 0 before after end → Laid (lines_to (suc n)) 0 before after end
-unfolding lines_to
-one_more n laid = laid
-
-pub printed_next : {before now after : List ℕ} {end next : ℕ} (links : ℕ) → Printed before now end links → 251 * links ≤ length before → Laid (line links) end now after next → next ≤ end + 251
-    → Printed before after next (links + 1)
-printed_next zero printed room laid few = absurd (omega (arith, printed.some))
-printed_next (suc n) printed room laid few =
+one_more zero some laid more = absurd (omega arith)
+one_more (suc n) some {before} laid more =
     let here : suc n - 1 ≡ n = omega arith in
     let then : suc n + 1 - 1 ≡ suc n = omega arith in
-    record {
-      some = omega arith;
-      long = laid_same_length (omega (arith, laid.ends, printed.short, printed.long)) laid ∙ printed.long;
-      short = omega (arith, printed.short);
-      laid = rw then (one_more n (laid_behind (omega arith) (rw here at printed.laid) laid));
-    }
-
-pub printed_last : {before now : List ℕ} {end links : ℕ} → Printed before now end links → links ≡ 6 → Laid (lines_to 5) 0 before now end × (end ≤ 1255)
-printed_last {before} {now} {end} printed e =
-    let five = ap (λ n. n - 1) e in
-    (subst (λ n. Laid (lines_to n) 0 before now end) five printed.laid, omega (arith, printed.short))
+    rw then (more ∙ ap (λ l. l ++ line (suc n)) (laid ∙ ap lines_to here))

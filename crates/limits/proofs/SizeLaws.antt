@@ -1,5 +1,5 @@
 -- The sizes of five links: what a computed test says of each.
-use Prim.Native.Nat.{ℕ, suc, ◌+◌, ◌^◌, ◌≤◌, ◌<◌}
+use Prim.Native.Nat.{ℕ, suc, ◌+◌, ◌*◌, ◌^◌, ◌≤◌, ◌<◌}
 use mathlib.Core.Path.{◌≡◌, sym, ap, ◌∙◌}
 use mathlib.Core.Bool.{Bool}
 use mathlib.Core.List.{List, [], ◌∷◌}
@@ -85,11 +85,8 @@ power_below a b h = by_leb b a (λ t. a < b) (λ l. absurd (omega (arith, pow_mo
 power_within : (a b : ℕ) → 2 ^ a ≤ 2 ^ b → a ≤ b
 power_within a b h = by_leb a b (λ t. a ≤ b) (λ l. l) (λ l. absurd (omega (arith, pow_mono {i = suc b} {j = a} l, two-pow-succ b, pow_pos b)))
 
-module _ (i levels inputs all : ℕ) (low : 1 ≤ i) (high : i ≤ 5) (is : all ≡ k i) (doubled : inputs ≡ 2 ^ levels) where
-  -- with fewer inputs than S there is another level
-  pub level_left : inputs < all → (levels < height i) × (inputs < 32)
-  level_left less = (power_below levels (height i) (omega (arith, k_power i)), omega (arith, k_few i low high))
-
-  -- and with as many there is none
-  pub no_level_left : all ≤ inputs → levels ≤ height i → levels ≡ height i
-  no_level_left enough most = let least : height i ≤ levels = power_within (height i) levels (omega (arith, k_power i)) in omega arith
+pub height_log : (i log : ℕ) → 2 ^ log ≤ k i → k i < 2 * 2 ^ log → log ≡ height i
+height_log i log low high =
+    let least : height i < suc log = power_below (height i) (suc log) (omega (arith, k_power i, two-pow-succ log)) in
+    let most : log ≤ height i = power_within log (height i) (omega (arith, k_power i)) in
+    omega arith

@@ -8,15 +8,18 @@ ghost use Rattle.rules.specs.Links.{k, height, capacity, LinkNumber};
 ghost use Rattle.rules.specs.Tree.{k_merger};
 ghost use Rattle.rules.specs.Bounds.{per_insert, per_packing};
 ghost use Rattle.rules.specs.Longest.{risen, longest_take, longest_insert};
-ghost use Rattle.text.specs.Decimal.{decimal};
-ghost use Rattle.text.specs.Laid.{Laid};
 ghost use Rattle.limits.specs.Lines.{sizes, inserts, line, lines_to};
 
 use rules::Link;
 use std::io;
 use std::io::Write;
+use text::Line;
+
+// Five lines of 251 bytes at most.
+const ROOM: usize = 1255;
 
 // How many S link i has; the fifth link's sizes stand here until a queue may have it.
+#[tactic(auto, using(crate::proofs::SizeLaws::fifth_k))]
 fn k(i: usize) -> usize
     requires { (1 ≤ i) × (i ≤ 5) }
     ensures { result ≡ k i }
@@ -45,18 +48,12 @@ fn capacity(i: usize, j: usize) -> usize
 }
 
 // How many mergers stand one above the other between B(i) and an S.
+#[tactic(auto, using(rules::proofs::Sizes::k_some, crate::proofs::SizeLaws::height_log))]
 fn height(i: usize) -> usize
     requires { (1 ≤ i) × (i ≤ 5) }
     ensures { result ≡ height i }
 {
-    let all = k(i);
-    let mut levels = 0;
-    let mut inputs = 1;
-    while inputs < all {
-        inputs = 2 * inputs;
-        levels += 1;
-    }
-    levels
+    k(i).ilog2() as usize
 }
 
 // What filling B(i) once can cost at most: j buffers on a level, and so many levels of mergers below them.
@@ -64,13 +61,11 @@ fn risen(i: usize) -> usize
     requires { (1 ≤ i) × (i ≤ 5) }
     ensures { result ≡ risen (k_merger i) }
 {
-    let mut levels = height(i);
     let mut j = 1;
     let mut total = 0;
-    while levels > 0 {
+    for levels in (1..=height(i)).rev() {
         total += j * capacity(i, j) * levels;
-        j = 2 * j;
-        levels -= 1;
+        j *= 2;
     }
     total
 }
@@ -79,15 +74,14 @@ fn longest_take(links: usize) -> usize
     requires { (1 ≤ links) × (links ≤ 5) }
     ensures { result ≡ longest_take links }
 {
-    let mut i = 1;
     let mut total = 0;
-    while i <= links {
+    for i in 1..=links {
         total += capacity(i, 0) + risen(i);
-        i += 1;
     }
     total
 }
 
+#[tactic(auto, using(crate::proofs::SizeLaws::height_few, crate::proofs::SizeLaws::most_some, rules::proofs::Table::most_few), unfolding(rules::specs::Longest::longest_insert))]
 fn longest_insert(links: usize) -> usize
     requires { LinkNumber links }
     ensures { result ≡ longest_insert links }
@@ -95,18 +89,20 @@ fn longest_insert(links: usize) -> usize
     (links + height(links)) * (Link::at(links).most() - Link::INSERTION)
 }
 
+#[tactic(auto, using(rules::proofs::Table::at_link), unfolding(rules::specs::Bounds::per_insert))]
 fn per_insert(links: usize) -> usize
     requires { LinkNumber links }
     ensures { result ≡ per_insert links }
 {
     match links {
-        0..=1 => 2,
-        2..=2 => 6,
-        3..=3 => 13,
+        1 => 2,
+        2 => 6,
+        3 => 13,
         _ => 22,
     }
 }
 
+#[tactic(auto, using(crate::proofs::SizeLaws::height_few, rules::proofs::Table::most_few), unfolding(rules::specs::Bounds::per_packing))]
 fn per_packing(links: usize) -> usize
     requires { LinkNumber links }
     ensures { result ≡ per_packing links }
@@ -114,64 +110,55 @@ fn per_packing(links: usize) -> usize
     (links + height(links)) * Link::at(links).most()
 }
 
-// A label, and a number in decimal.
-fn lay_field(out: &mut [u8], at: usize, label: &[u8], n: usize) -> usize
-    requires { at + length label.now + 20 ≤ length out.old }
-    ensures { Laid (label.now ++ decimal n) at out.old out.new result × (result ≤ at + length label.now + 20) }
-{
-    let end = text::lay(out, at, label);
-    text::lay_number(out, end, n as u64)
-}
-
-fn lay_sizes(out: &mut [u8], at: usize, links: usize) -> usize
-    requires { (1 ≤ links) × (at + 85 ≤ length out.old) }
-    ensures { Laid (sizes links) at out.old out.new result × (result ≤ at + 85) }
+fn lay_sizes(out: &mut Line<ROOM>, links: usize)
+    requires { (1 ≤ links) × (length out.old + 85 ≤ ROOM) }
+    ensures text { out.new ≡ out.old ++ sizes links }
+    ensures few { length out.new ≤ length out.old + 85 }
 {
     if links > Link::MOST {
-        return at;
+        return;
     }
     let last = Link::at(links);
-    let mut end = lay_field(out, at, b"  array ", last.words());
-    end = lay_field(out, end, b"  work ", last.most());
-    lay_field(out, end, b"  entries ", last.most())
+    out.field(b"  array ", last.words() as u64);
+    out.field(b"  work ", last.most() as u64);
+    out.field(b"  entries ", last.most() as u64);
 }
 
-fn lay_inserts(out: &mut [u8], at: usize, links: usize) -> usize
-    requires { (1 ≤ links) × (at + 104 ≤ length out.old) }
-    ensures { Laid (inserts links) at out.old out.new result × (result ≤ at + 104) }
+fn lay_inserts(out: &mut Line<ROOM>, links: usize)
+    requires { (1 ≤ links) × (length out.old + 104 ≤ ROOM) }
+    ensures text { out.new ≡ out.old ++ inserts links }
+    ensures few { length out.new ≤ length out.old + 104 }
 {
     if links > Link::MOST {
-        return at;
+        return;
     }
-    let mut end = lay_field(out, at, b"  longest insert ", longest_insert(links));
-    end = lay_field(out, end, b"  per insert ", per_insert(links));
-    lay_field(out, end, b"  per packing ", per_packing(links))
+    out.field(b"  longest insert ", longest_insert(links) as u64);
+    out.field(b"  per insert ", per_insert(links) as u64);
+    out.field(b"  per packing ", per_packing(links) as u64);
 }
 
 // Of links that no queue has yet, the longest take alone. 251 bytes are room for every line.
-fn lay_line(out: &mut [u8], at: usize, links: usize) -> usize
-    requires { (1 ≤ links) × (links ≤ 5) × (at + 251 ≤ length out.old) }
-    ensures { Laid (line links) at out.old out.new result × (result ≤ at + 251) }
+fn lay_line(out: &mut Line<ROOM>, links: usize)
+    requires { (1 ≤ links) × (links ≤ 5) × (length out.old + 251 ≤ ROOM) }
+    ensures text { out.new ≡ out.old ++ line links }
+    ensures few { length out.new ≤ length out.old + 251 }
 {
-    let mut end = lay_field(out, at, b"links ", links);
-    end = lay_sizes(out, end, links);
-    end = lay_field(out, end, b"  longest take ", longest_take(links));
-    end = lay_inserts(out, end, links);
-    text::lay(out, end, b"\n")
+    out.field(b"links ", links as u64);
+    lay_sizes(out, links);
+    out.field(b"  longest take ", longest_take(links) as u64);
+    lay_inserts(out, links);
+    out.text(b"\n");
 }
 
-// The lines for one to five links, 251 bytes at most for each.
-fn lay_lines(out: &mut [u8]) -> usize
-    requires { 1255 ≤ length out.old }
-    ensures { Laid (lines_to 5) 0 out.old out.new result × (result ≤ 1255) }
+// The lines for one to five links.
+fn lay_lines() -> Line<ROOM>
+    ensures { result ≡ lines_to 5 }
 {
-    let mut end = 0;
-    let mut links = 1;
-    while links <= 5 {
-        end = lay_line(out, end, links);
-        links += 1;
+    let mut out = Line::new();
+    for links in 1..=5 {
+        lay_line(&mut out, links);
     }
-    end
+    out
 }
 
 // Writes the lines out.
@@ -179,9 +166,8 @@ fn write_lines<W: Write>(output: &mut W) -> io::Result<()>
     ensures ok { OnOk result (Appends (W.contents output.old) (W.contents output.new) (lines_to 5)) }
     ensures err { OnErr result (AppendsFront (W.contents output.old) (W.contents output.new) (lines_to 5)) }
 {
-    let mut out = [0u8; 1255];
-    let end = lay_lines(&mut out);
-    streams::write_whole(output, &out[..end])
+    let out = lay_lines();
+    streams::write_whole(output, out.as_slice())
 }
 
 fn main(rt: HostRuntime) -> io::Result<()> {

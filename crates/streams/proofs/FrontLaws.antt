@@ -1,12 +1,12 @@
 -- The loop that writes: what it has written of some bytes, and what is left of them.
 use mathlib.Core.Path.{◌≡◌, refl, sym, ap, ◌∙◌, subst}
-use mathlib.Core.List.{List, [], ◌++◌, append_assoc, append-nil}
+use mathlib.Core.List.{List, ◌++◌, append_assoc}
 use Prim.Native.Nat.{ℕ, ◌-◌}
 use lib.ListN.{length, take, drop}
 use lib.Seq.{take_at}
 use Rattle.std.specs.Prelude.{Option}
 use Rattle.std.specs.Io.KnownBytes.{Appends, Keeps}
-use Rattle.std.proofs.KnownBytes.{Appends-nil, Appends-trans, Appends-kept}
+use Rattle.std.proofs.KnownBytes.{Appends-trans, Appends-kept}
 use Rattle.std.proofs.Common.{take-append-drop}
 use Rattle.std.proofs.lemmas.List.{take_rest}
 use Rattle.streams.specs.Fronts.{AppendsFront}
@@ -15,9 +15,6 @@ pub record Wrote (old new : Option (List ℕ)) (bytes rest : List ℕ) : Type 0 
   pub done : List ℕ
   pub split : bytes ≡ done ++ rest
   pub appended : Appends old new done
-
-pub none_yet : (old : Option (List ℕ)) (bytes : List ℕ) → Wrote old old bytes bytes
-none_yet old bytes = record { done = []; split = refl; appended = Appends-nil old }
 
 module _ {old now : Option (List ℕ)} {bytes rest : List ℕ} (w : Wrote old now bytes rest) where
   pub some_more : {new : Option (List ℕ)} (n : ℕ) → Appends now new (take n rest) → Wrote old new bytes (take (length rest - n) (drop n rest))
@@ -34,6 +31,3 @@ module _ {old now : Option (List ℕ)} {bytes rest : List ℕ} (w : Wrote old no
 
   pub front : AppendsFront old now bytes
   front = (length w.done, subst (Appends old now) (sym (ap (take (length w.done)) w.split ∙ take_at w.done rest (length w.done) refl)) w.appended)
-
-  pub whole : rest ≡ [] → Appends old now bytes
-  whole none = subst (Appends old now) (sym (w.split ∙ ap (λ (l : List ℕ). w.done ++ l) none ∙ append-nil w.done)) w.appended

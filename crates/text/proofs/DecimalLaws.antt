@@ -4,9 +4,14 @@ use mathlib.Core.List.{List, [], ◌∷◌, ◌++◌}
 use Prim.Native.Nat.{ℕ, zero, suc, ◌+◌, ◌*◌, ◌/◌, ◌%◌, ◌-◌, ◌<◌, ◌≤◌, ◌^◌}
 use native.Mathlib.Decide.{dec_lt}
 use native.Mathlib.Omega.{arith}
-use native.Mathlib.Nat.{pow-zero, pow-suc}
+use native.Mathlib.Nat.{pow-zero, pow-suc, pow-le-pow_right, add_comm}
 use lib.ListN.{length, get_or, length-append, get_or-append}
+use lib.Dec.{ltb}
+use mathlib.Core.Bool.{true}
+use Rattle.std.specs.Prelude.{Option, Some, None, IfSome, IfNone}
+use Rattle.std.specs.Option.{unwrap_or}
 use borrow.Author.Tests.{lt-ltb, le-ltb}
+use Rattle.digits.specs.Written.{digit_of, written}
 use Rattle.text.specs.Decimal.{places_within, places, digits, decimal, value_after, value_of}
 
 -- what holds of one digit, and of n where it holds of n / 10, holds of every number
@@ -73,16 +78,33 @@ below_places =
     (λ n h. rw (places_one n h) (omega (arith, pow-suc 10 0, pow-zero 10)))
     (λ n h l. rw (places_more n h, pow-suc) (omega arith))
 
+-- one place more than the exponent of the largest power of ten in it
+places_power : (n power : ℕ) → 10 ^ power ≤ n → n < 10 * 10 ^ power → power + 1 ≡ places n
+places_power n power low high =
+    let most = places_below power n (omega (arith, pow-suc 10 power)) in
+    elim (dec_lt power (places n)) [
+      | yes more ↦ omega arith
+      | no few ↦ absurd (omega (arith, below_places n, pow-le-pow_right {n = 10} (omega arith) {i = places n} {j = power} (omega arith)))
+    ]
+
+pub places_log : (n : ℕ) (log : Option ℕ) → IfNone log (n ≡ 0) → IfSome log (λ k. 10 ^ k ≤ n) → IfSome log (λ k. n < 10 * 10 ^ k) → unwrap_or log 0 + 1 ≡ places n
+places_log n None none low high = sym (places_one n (omega arith))
+places_log n (Some power) none low high = places_power n power low high
+
 -- digits
+
+-- the digits that are put are those of ten
+pub written_ten : (k n : ℕ) → written 10 k n ≡ digits k n
+unfolding digits written digit_of
+written_ten zero n = refl
+written_ten (suc k) n =
+    let figure : ltb (n % 10) 10 ≡ true = lt-ltb (n % 10) 10 (omega arith) in
+    rw (written_ten k (n / 10), figure, add_comm (n % 10) 48) refl
 
 pub length_digits : (k n : ℕ) → length (digits k n) ≡ k
 unfolding digits
 length_digits zero n = refl
 length_digits (suc k) n = simp (length-append, length_digits k (n / 10)) (omega arith)
-
--- a number of 64 bits has at most 20 digits
-pub decimal_short : (n : ℕ) → n < 2 ^ 64 → length (decimal n) ≤ 20
-decimal_short n h = omega (arith, length_digits (places n) n, places_few n h)
 
 value_append : (n : ℕ) (xs ys : List ℕ) → value_after n (xs ++ ys) ≡ value_after (value_after n xs) ys
 unfolding value_after

@@ -1,21 +1,15 @@
 -- Texts laid one behind another are one text.
-use mathlib.Core.Path.{◌≡◌, refl, ap, sym, ◌∙◌}
-use mathlib.Core.List.{List, [], ◌++◌, append_assoc}
+use mathlib.Core.Path.{◌≡◌, refl, sym, ◌∙◌}
+use mathlib.Core.List.{List, ◌++◌, append_assoc}
 use Prim.Native.Nat.{ℕ, ◌+◌, ◌-◌, ◌<◌, ◌≤◌, ◌^◌}
 use native.Mathlib.Omega.{arith}
-use lib.ListN.{length, take, drop, length-append, length-drop}
-use lib.Seq.{length-take-le, take_at, drop_at, drop-drop, paste-zero}
+use lib.ListN.{length, take, drop, length-append}
+use lib.Seq.{length-take-le, take_at, drop_at, drop-drop}
 use borrow.Rule.Slice.PartMut.{mid_of, put_mid, Post-is, mid_len}
-use Rattle.text.specs.Decimal.{places, digits, decimal}
+use Rattle.digits.specs.Written.{written}
+use Rattle.text.specs.Decimal.{places, decimal}
 use Rattle.text.specs.Laid.{Laid}
-use Rattle.text.proofs.DecimalLaws.{places_few, length_digits}
-
-pub laid_same_length : {text before after : List ℕ} {at end : ℕ} → at + length text ≤ length before → Laid text at before after end → length after ≡ length before
-laid_same_length {text} {before} {after} {at} h l = ap length l.written ∙ simp (length-append, length-drop, length-take-le at before (omega arith)) (omega arith)
-
--- nothing is laid yet
-pub laid_none : (at : ℕ) (before : List ℕ) → Laid [] at before before at
-laid_none at before = record { ends = omega arith; written = paste-zero before at [] }
+use Rattle.text.proofs.DecimalLaws.{places_few, length_digits, written_ten}
 
 -- one text, and another behind it
 pub laid_behind : {one two before middle after : List ℕ} {at end₁ end₂ : ℕ} → at ≤ length before → Laid one at before middle end₁
@@ -31,14 +25,10 @@ laid_behind {one} {two} {before} {middle} {after} {at} {end₁} h l m =
       written = m.written ∙ rw (all, front, back) (simp append_assoc);
     }
 
--- what was laid from the beginning is read there
-pub laid_reads : {text before after : List ℕ} {end : ℕ} → Laid text 0 before after end → take end after ≡ text
-laid_reads {text} {before} {after} {end} l = rw l.written (take_at text (drop (0 + length text) before) end (omega (arith, l.ends)))
-
 -- a field of as many bytes as a number has digits; its start is a number of its own, so that a wrong one is refused by its value
 pub number_laid : (n at from end : ℕ) (before field : List ℕ) → n < 2 ^ 64 → at + 20 ≤ length before → from ≡ at → end ≡ from + places n
-    → field ≡ digits (length (mid_of from (end - from) before)) n → Laid (decimal n) at before (put_mid from (end - from) before field) end
+    → field ≡ written 10 (length (mid_of from (end - from) before)) n → Laid (decimal n) at before (put_mid from (end - from) before field) end
 number_laid n at from end before field w h b e f =
     let many : length (mid_of from (end - from) before) ≡ places n = mid_len from end before (omega (arith, places_few n w)) ∙ omega arith in
     let all : at + length (decimal n) ≡ end = omega (arith, length_digits (places n) n) in
-    record { ends = sym all; written = rw (f, many, Post-is from end before (omega arith), all, b, append_assoc) refl }
+    record { ends = sym all; written = rw (f, many, written_ten, Post-is from end before (omega arith), all, b, append_assoc) refl }

@@ -1,4 +1,3 @@
 pub mod DecimalLaws
 pub mod LaidLaws
-pub mod Loops
 pub mod SignedLaws

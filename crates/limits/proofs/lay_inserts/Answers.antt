@@ -1,16 +1,16 @@
 -- Three fields, one behind the other.
-use native.Mathlib.Omega.{arith}
+use Rattle.std.proofs.Common.{arith}
 use Rattle.text.specs.Bytes.{bytes}
 use Rattle.limits.proofs.FieldLaws.{as_field, inserts_laid, no_inserts}
 use Rattle.limits.proofs.lay_inserts.Goals as goal
 
-pub returns-then-links-gt-MOST : goal.returns-then-links-gt-MOST
-returns-then-links-gt-MOST c = (no_inserts _ _ _ (omega arith), omega arith)
+pub returns-then-links-gt-MOST-clause-text : goal.returns-then-links-gt-MOST-clause-text
+returns-then-links-gt-MOST-clause-text c = no_inserts _ (omega arith) _
 
-pub returns : goal.returns
+pub returns-clause-text : goal.returns-clause-text
 unfolding bytes
-returns c =
-    let packing = as_field "  per packing " c.per_packing.ensures c.lay_field.ensures.0 in
-    let each = as_field "  per insert " c.per_insert.ensures c.lay_field-end-2.ensures.0 in
-    let longest = as_field "  longest insert " c.longest_insert.ensures c.lay_field-end.ensures.0 in
-    (inserts_laid _ (omega arith) (omega arith) longest each packing, omega (arith, c.lay_field.ensures.1, c.lay_field-end-2.ensures.1, c.lay_field-end.ensures.1))
+returns-clause-text c =
+    let longest = as_field "  longest insert " _ c.longest_insert.ensures c.field.ensures.text in
+    let insert = as_field "  per insert " _ c.per_insert.ensures c.field-2.ensures.text in
+    let packing = as_field "  per packing " _ c.per_packing.ensures c.field-3.ensures.text in
+    inserts_laid _ (omega arith) _ longest insert packing

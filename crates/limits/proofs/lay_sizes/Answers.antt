@@ -1,19 +1,18 @@
 -- Three fields, one behind the other.
-use mathlib.Core.Path.{ap, ◌∙◌}
-use native.Mathlib.Omega.{arith}
+use Rattle.std.proofs.Common.{arith, ap, ◌∙◌}
 use Rattle.rules.specs.Links.{most, words}
 use Rattle.text.specs.Bytes.{bytes}
 use Rattle.limits.proofs.FieldLaws.{as_field, sizes_laid, no_sizes}
 use Rattle.limits.proofs.lay_sizes.Goals as goal
 
-pub returns-then-links-gt-MOST : goal.returns-then-links-gt-MOST
-returns-then-links-gt-MOST c = (no_sizes _ _ _ (omega arith), omega arith)
+pub returns-then-links-gt-MOST-clause-text : goal.returns-then-links-gt-MOST-clause-text
+returns-then-links-gt-MOST-clause-text c = no_sizes _ (omega arith) _
 
-pub returns : goal.returns
+pub returns-clause-text : goal.returns-clause-text
 unfolding bytes
-returns c =
+returns-clause-text c =
     let is = c.at-last.ensures in
-    let entries = as_field "  entries " (c.most-2.ensures ∙ ap most is) c.lay_field.ensures.0 in
-    let work = as_field "  work " (c.most.ensures ∙ ap most is) c.lay_field-end-2.ensures.0 in
-    let array = as_field "  array " (c.words.ensures ∙ ap words is) c.lay_field-end.ensures.0 in
-    (sizes_laid _ (omega arith) (omega arith) array work entries, omega (arith, c.lay_field.ensures.1, c.lay_field-end-2.ensures.1, c.lay_field-end.ensures.1))
+    let array = as_field "  array " _ (c.words.ensures ∙ ap words is) c.field.ensures.text in
+    let work = as_field "  work " _ (c.most.ensures ∙ ap most is) c.field-2.ensures.text in
+    let entries = as_field "  entries " _ (c.most-2.ensures ∙ ap most is) c.field-3.ensures.text in
+    sizes_laid _ (omega arith) _ array work entries

@@ -1,11 +1,7 @@
 -- Each write moves a front of what is left, or nothing.
-use Rattle.std.proofs.Common.{rules, drop_of_length-le}
 use Rattle.std.proofs.lemmas.Result.{err_from_is_err_and}
-use Rattle.streams.proofs.FrontLaws.{none_yet, some_more, no_more, front, whole}
+use Rattle.streams.proofs.FrontLaws.{some_more, no_more, front}
 use Rattle.streams.proofs.write_whole.Goals as goal
-
-pub loop-rest-init : goal.loop-rest-init
-loop-rest-init g c = none_yet _ _
 
 pub returns-in_err-n-clause-err : goal.returns-in_err-n-clause-err
 returns-in_err-n-clause-err g c =
@@ -17,6 +13,3 @@ returns-then-n-eq0-clause-err g c = front (some_more c.loop-rest.invariant c.in_
 
 pub loop-rest-preserved : goal.loop-rest-preserved
 loop-rest-preserved g c = some_more c.loop-rest.invariant c.in_ok-n.n c.in_ok-n.ensures.bytes
-
-pub returns-clause-ok : goal.returns-clause-ok
-returns-clause-ok g c = whole c.loop-rest.invariant (drop_of_length-le c.loop-rest.rest.now {i = 0} (search rules))
