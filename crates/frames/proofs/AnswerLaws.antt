@@ -4,11 +4,9 @@ use mathlib.Core.Bool.{Bool, true, false, cond}
 use mathlib.Core.List.{[], ◌∷◌}
 use Prim.Native.Nat.{ℕ}
 use native.Mathlib.Omega.{arith}
-use Rattle.frames.specs.Answers.{Back, done, refused, read_back, written_back}
-use Rattle.frames.specs.declared.ReadFrame.{ReadFrame}
-use Rattle.frames.specs.declared.ReadFrame.TheVariants.{Order as Read, NotAFrame}
-use Rattle.frames.specs.declared.Written.{Written}
-use Rattle.frames.specs.declared.Written.TheVariants.{Bytes, Refused}
+use Rattle.std.specs.Prelude.{Result, Ok, Err}
+use Rattle.frames.specs.Answers.{Back, done, refused, back}
+use Rattle.frames.specs.declared.NotAFrame.{NotAFrame}
 
 module _ {A : Type 0} where
   pub done_same : {x y : A} → done x ≡ done y → x ≡ y
@@ -21,14 +19,8 @@ module _ {A : Type 0} where
   by_test true e f g = f refl e
   by_test false e f g = g refl e
 
-pub read_same : (r s : ReadFrame) → read_back r ≡ read_back s → r ≡ s
-read_same (Read o) (Read p) e = ap Read (done_same e)
-read_same (Read o) NotAFrame e = not_done (sym e)
-read_same NotAFrame (Read p) e = not_done e
-read_same NotAFrame NotAFrame e = refl
-
-pub written_same : (r s : Written) → written_back r ≡ written_back s → r ≡ s
-written_same (Bytes n) (Bytes m) e = ap Bytes (done_same e)
-written_same (Bytes n) Refused e = not_done (sym e)
-written_same Refused (Bytes m) e = not_done e
-written_same Refused Refused e = refl
+pub back_same : {A : Type 0} (r s : Result A NotAFrame) → back r ≡ back s → r ≡ s
+back_same (Ok a) (Ok b) e = ap Ok (done_same e)
+back_same (Ok a) (Err f) e = not_done (sym e)
+back_same (Err f) (Ok b) e = not_done e
+back_same (Err f) (Err g) e = refl

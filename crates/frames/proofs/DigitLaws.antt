@@ -1,14 +1,15 @@
 -- One law for each direction between digits and numbers, over the number of digits: they serve every field.
-use mathlib.Core.Path.{◌≡◌, refl, sym, ◌∙◌, subst}
+use mathlib.Core.Path.{◌≡◌, refl, ap, sym, ◌∙◌, subst}
 use mathlib.Core.Bool.{Bool, true, false, not, ◌&&◌, ◌||◌, and_assoc, false≢true}
 use mathlib.Core.List.{List, [], ◌∷◌, ◌++◌, append_assoc, append-nil}
-use Prim.Native.Nat.{ℕ, zero, suc, ◌+◌, ◌*◌, ◌/◌, ◌%◌, ◌-◌, ◌<◌, ◌≤◌, ◌^◌}
+use Prim.Native.Nat.{ℕ, zero, suc, ◌+◌, ◌*◌, ◌/◌, ◌%◌, ◌<◌, ◌≤◌, ◌^◌}
 use native.Mathlib.Decide.{dec_lt}
 use native.Mathlib.Omega.{arith}
 use native.Mathlib.Nat.{zero-add, add-zero, pow-zero, pow-suc, pow-succ', mul-one, mul_assoc}
 use lib.Dec.{ltb, eqb}
 use lib.ListN.{length, length-append}
 use borrow.Author.Tests.{lt-ltb, le-ltb, ltb-true, eqb-true}
+use Rattle.digits.specs.Written.{digit_of as figure, written}
 use Rattle.frames.specs.Digits.{value_of, digit_of, capital, number_after, number, digits}
 
 -- a test that is computed below a number
@@ -37,22 +38,6 @@ up_to_at p (suc n) t i h =
 -- one digit
 
 module _ (c : ℕ) where
-  pub value_before : c < 48 → 16 ≡ value_of c
-  unfolding value_of
-  value_before h = simp (lt-ltb c 48 h)
-
-  pub value_figure : 48 ≤ c → c < 58 → c - 48 ≡ value_of c
-  unfolding value_of
-  value_figure l h = simp (le-ltb c 48 l, lt-ltb c 58 h)
-
-  pub value_between : 58 ≤ c → c < 65 → 16 ≡ value_of c
-  unfolding value_of
-  value_between l h = simp (le-ltb c 48 (omega arith), le-ltb c 58 l, lt-ltb c 65 h)
-
-  pub value_letter : 65 ≤ c → c < 71 → c - 55 ≡ value_of c
-  unfolding value_of
-  value_letter l h = simp (le-ltb c 48 (omega arith), le-ltb c 58 (omega arith), le-ltb c 65 l, lt-ltb c 71 h)
-
   pub value_past : 71 ≤ c → 16 ≡ value_of c
   unfolding value_of
   value_past l = simp (le-ltb c 48 (omega arith), le-ltb c 58 (omega arith), le-ltb c 65 (omega arith), le-ltb c 71 l)
@@ -89,6 +74,12 @@ pub length_digits : (k n : ℕ) → length (digits k n) ≡ k
 unfolding digits
 length_digits zero n = refl
 length_digits (suc k) n = simp (length-append, length_digits k (n / 16)) (omega arith)
+
+-- the digits that are put are those of sixteen
+pub written_sixteen : (k n : ℕ) → written 16 k n ≡ digits k n
+unfolding digits digit_of written figure
+written_sixteen zero n = refl
+written_sixteen (suc k) n = ap (λ ds. ds ++ (digit_of (n % 16) ∷ [])) (written_sixteen k (n / 16))
 
 pub capital_digits : (k n : ℕ) → capital (digits k n) ≡ true
 unfolding digits capital

@@ -1,10 +1,10 @@
 -- An entry and its word.
 use mathlib.Core.Path.{◌≡◌, refl, ap, sym, ◌∙◌}
 use mathlib.Core.Bool.{Bool, true, false, cond}
-use Prim.Native.Nat.{ℕ, ◌+◌, ◌*◌, ◌/◌, ◌%◌, ◌<◌, ◌≤◌, ◌^◌}
+use Prim.Native.Nat.{ℕ, ◌+◌, ◌*◌, ◌/◌, ◌%◌, ◌<◌, ◌^◌}
 use native.Mathlib.Omega.{arith}
 use lib.Dec.{ltb, eqb}
-use borrow.Author.Tests.{lt-ltb, le-ltb, ltb-true, ne_eqb, eqb-true, eqb-false}
+use borrow.Author.Tests.{lt-ltb, ltb-true, ne_eqb, eqb-true, eqb-false}
 use Rattle.frames.specs.Entries.{door_of, byte_of, entry_of, word_of, door_writable, entry_writable, DoorFits, EntryFits}
 use Rattle.frames.specs.declared.Door.{Door}
 use Rattle.frames.specs.declared.Door.TheVariants.{Both, Left, Right, Other}
@@ -24,13 +24,6 @@ door_byte Right e = refl
 door_byte (Other b) e =
     let h : 2 < b = ltb-true 2 b e in
     simp (ne_eqb b 0 (omega arith), ne_eqb b 1 (omega arith), ne_eqb b 2 (omega arith))
-
-module _ (e : Entry) where
-  pub command_long : 2 ^ 24 ≤ e.command → false ≡ entry_writable e
-  command_long h = rw (le-ltb e.command (2 ^ 24) h) refl
-
-  pub door_decides : (d : Door) → e.command < 2 ^ 24 → e.door ≡ d → door_writable d ≡ entry_writable e
-  door_decides d h k = rw (lt-ltb e.command (2 ^ 24) h, k) refl
 
 -- a byte that was read as a door
 record Read (b : ℕ) (d : Door) : Type 0 where

@@ -1,13 +1,13 @@
 -- What a line is read as, case by case.
 use mathlib.Core.Path.{◌≡◌, refl, ap, sym, ◌∙◌}
-use mathlib.Core.Bool.{true, false, ◌&&◌, and-false}
+use mathlib.Core.Bool.{true, false, cond, ◌&&◌, and-false}
 use mathlib.Core.List.{List, ◌++◌}
 use Prim.Native.Nat.{ℕ, ◌+◌, ◌-◌, ◌<◌, ◌≤◌, ◌^◌}
 use native.Mathlib.Omega.{arith}
-use lib.Dec.{eqb}
+use lib.Dec.{eqb, ltb}
 use lib.ListN.{length, take, drop, length-append, length-drop, take-append-drop}
 use lib.Seq.{take_all, take_at, drop_at, length-take-le}
-use borrow.Author.Tests.{eq-eqb, ne_eqb, eqb-true}
+use borrow.Author.Tests.{lt-ltb, eq-eqb, ne_eqb, eqb-true}
 use Rattle.frames.specs.Answers.{Back, done, refused}
 use Rattle.frames.specs.Digits.{capital, number, digits, Field}
 use Rattle.frames.specs.Orders.{width_of, order_of, Body}
@@ -28,7 +28,7 @@ capital_drop : (k : ℕ) (l : List ℕ) → capital l ≡ true → capital (drop
 capital_drop k l h = both_right (capital (take k l)) (capital (drop k l)) (split k l h)
 
 -- the part from k on
-to_the_end : (k : ℕ) (l : List ℕ) → take (length l - k) (drop k l) ≡ drop k l
+pub to_the_end : (k : ℕ) (l : List ℕ) → take (length l - k) (drop k l) ≡ drop k l
 to_the_end k l = take_all (length l - k) (drop k l) (simp length-drop (omega arith))
 
 pub code_field : (l : List ℕ) → capital l ≡ true → 2 ≤ length l → Field (take 2 l)
@@ -37,16 +37,9 @@ code_field l h n = record { hex = capital_take 2 l h; short = omega (arith, leng
 pub body_of : (c : ℕ) (l : List ℕ) → capital l ≡ true → length l ≡ 2 + width_of c → Body c (take (length l - 2) (drop 2 l))
 body_of c l h n = rw to_the_end record { hex = capital_drop 2 l h; long = simp length-drop (omega arith) }
 
--- a body is a field, where its code is known
-module _ (c k : ℕ) (ds : List ℕ) (b : Body c ds) (e : c ≡ k) where
-  body_long : length ds ≡ width_of k
-  body_long = b.long ∙ rw e refl
-
-  pub body_field : width_of k ≤ 16 → Field ds
-  body_field w = record { hex = b.hex; short = omega (arith, body_long) }
-
-  pub body_below : number ds < 16 ^ width_of k
-  body_below = rw body_long at (number_below ds b.hex)
+-- a body has room for the number that it writes
+pub body_has_room : (c n : ℕ) (ds : List ℕ) → Body c ds → n ≡ number ds → cond (ltb n (16 ^ width_of c)) (order_of c n) refused ≡ order_of c (number ds)
+body_has_room c n ds b e = rw (e, lt-ltb (number ds) (16 ^ width_of c) (rw b.long at (number_below ds b.hex))) refl
 
 module _ (l : List ℕ) where
   pub read_rough : capital l ≡ false → refused ≡ read_of l

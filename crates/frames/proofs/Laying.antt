@@ -15,8 +15,8 @@ use Rattle.frames.specs.Orders.{code_of, width_of, body_of, frame_of, writable}
 use Rattle.frames.specs.Lines.{lays, Laid}
 use Rattle.frames.specs.AnswerLine.{answer_line}
 use Rattle.frames.specs.declared.Order.{Order}
-use Rattle.frames.specs.declared.Written.{Written}
-use Rattle.frames.specs.declared.Written.TheVariants.{Bytes, Refused}
+use Rattle.frames.specs.declared.NotAFrame.{NotAFrame}
+use Rattle.std.specs.Prelude.{Result, Ok, Err}
 use Rattle.frames.proofs.AnswerLaws.{done_same, not_done, by_test}
 use Rattle.frames.proofs.DigitLaws.{both_left, both_right, length_digits}
 
@@ -59,14 +59,14 @@ module _ (line out out' : List ℕ) (b : Begun line out out') where
         stands = rw (set_split out' a byte (omega (arith, same_length)), back, all, append_assoc) (rw (b.stands, take_at line (drop (length line) out) a s) refl);
       }
 
-  laid_all : (n : ℕ) → length line ≡ n → Laid true line out out' (Bytes n)
+  laid_all : (n : ℕ) → length line ≡ n → Laid true line out out' (Ok n)
   laid_all n e = record {
     answer = rw (le-leb (length line) (length out) b.inside, e) refl;
     after = rw (le-leb (length line) (length out) b.inside) b.stands;
   }
 
-laid_short : (may : Bool) (line out : List ℕ) → length out < length line → Laid may line out out Refused
-laid_short may line out h =
+laid_short : (may : Bool) (line out : List ℕ) → (e : NotAFrame) → length out < length line → Laid may line out out (Err e)
+laid_short may line out e h =
     let no_room : lays may line out ≡ false = rw (lt-leb (length line) (length out) h) (and-false may) in
     record { answer = rw no_room refl; after = rw no_room refl }
 
@@ -77,7 +77,7 @@ pub record Came (may : Bool) (line out out' : List ℕ) (n : ℕ) : Type 0 where
   pub count : length line ≡ n
   pub after : out' ≡ line ++ drop (length line) out
 
-pub laid_came : (may : Bool) (line out out' : List ℕ) (r : Written) (n : ℕ) → Laid may line out out' r → r ≡ Bytes n → Came may line out out' n
+pub laid_came : (may : Bool) (line out out' : List ℕ) (r : Result ℕ NotAFrame) (n : ℕ) → Laid may line out out' r → r ≡ Ok n → Came may line out out' n
 laid_came may line out out' r n laid e =
     by_test (lays may line out) (sym laid.answer ∙ ap written_back e)
     (λ t e. record {
@@ -91,9 +91,6 @@ laid_came may line out out' r n laid e =
 two_long : (c n b : ℕ) → length (digits 2 c ++ digits n b) ≡ 2 + n
 two_long c n b = simp (length-append, length_digits 2 c, length_digits n b)
 
-pub two_short : (c n b : ℕ) (out : List ℕ) → length out < 2 + n → Laid true (digits 2 c ++ digits n b) out out Refused
-two_short c n b out h = laid_short true (digits 2 c ++ digits n b) out (omega (arith, two_long c n b))
-
 -- two digits, then n
 module _ (c n b : ℕ) (out f g : List ℕ) (room : 2 + n ≤ length out) (p : f ≡ digits (length (mid_of 0 2 out)) c)
     (q : g ≡ digits (length (mid_of 2 (2 + n - 2) (put_mid 0 2 out f))) b) where
@@ -102,19 +99,29 @@ module _ (c n b : ℕ) (out f g : List ℕ) (room : 2 + n ≤ length out) (p : f
       let one : Begun (digits 2 c) out (put_mid 0 2 out f) = begun_field [] out out (begun_none out) 0 2 2 c f refl refl (omega arith) p in
       begun_field _ _ _ one 2 (2 + n) n b g (length_digits 2 c) refl room q
 
-  pub two_laid : Laid true (digits 2 c ++ digits n b) out (put_mid 2 (2 + n - 2) (put_mid 0 2 out f) g) (Bytes (2 + n))
+  pub two_laid : Laid true (digits 2 c ++ digits n b) out (put_mid 2 (2 + n - 2) (put_mid 0 2 out f) g) (Ok (2 + n))
   two_laid = laid_all _ _ _ two_begun (2 + n) (two_long c n b)
 
 -- an order's frame
-pub frame_laid : (o : Order) (c n b : ℕ) (out out' : List ℕ) (r : Written) → writable o ≡ true → c ≡ code_of o → n ≡ width_of c → b ≡ body_of o
-    → Laid true (digits 2 c ++ digits n b) out out' r → Laid (writable o) (frame_of o) out out' r
-frame_laid o c n b out out' r w e k f laid = let m : n ≡ width_of (code_of o) = k ∙ ap width_of e in rw (w, ← m, ← e, ← f) laid
+module _ (o : Order) where
+  frame_long : length (frame_of o) ≡ 2 + width_of (code_of o)
+  frame_long = two_long (code_of o) (width_of (code_of o)) (body_of o)
+
+  pub frame_short : (out : List ℕ) → (e : NotAFrame) → length out < 2 + width_of (code_of o) → Laid (writable o) (frame_of o) out out (Err e)
+  frame_short out e h = laid_short (writable o) (frame_of o) out e (omega (arith, frame_long))
+
+  pub frame_barred : (out : List ℕ) → (e : NotAFrame) → writable o ≡ false → Laid (writable o) (frame_of o) out out (Err e)
+  frame_barred out e w = record { answer = rw w refl; after = rw w refl }
+
+  pub frame_laid : {c n b : ℕ} {out out' : List ℕ} {r : Result ℕ NotAFrame} → writable o ≡ true → c ≡ code_of o → n ≡ width_of c → b ≡ body_of o
+      → Laid true (digits 2 c ++ digits n b) out out' r → Laid (writable o) (frame_of o) out out' r
+  frame_laid {c} {n} w e k f laid = let m : n ≡ width_of (code_of o) = k ∙ ap width_of e in rw (w, ← m, ← e, ← f) laid
 
 pub answer_long : (a w s : ℕ) → length (answer_line a w s) ≡ 27
 answer_long a w s = simp (length-append, length_digits 2 a, length_digits 16 w, length_digits 8 s)
 
-pub answer_short : (a w s : ℕ) (out : List ℕ) → length out < 27 → Laid true (answer_line a w s) out out Refused
-answer_short a w s out h = laid_short true (answer_line a w s) out (omega (arith, answer_long a w s))
+pub answer_short : (a w s : ℕ) (out : List ℕ) → (e : NotAFrame) → length out < 27 → Laid true (answer_line a w s) out out (Err e)
+answer_short a w s out e h = laid_short true (answer_line a w s) out e (omega (arith, answer_long a w s))
 
 -- the answer, the word, the steps, the line end
 module _ (a w s : ℕ) (out f g h : List ℕ) (room : 27 ≤ length out) (p : f ≡ digits (length (mid_of 0 2 out)) a)
@@ -126,8 +133,5 @@ module _ (a w s : ℕ) (out f g h : List ℕ) (room : 27 ≤ length out) (p : f 
       begun_field _ _ _ two 18 26 8 s h (two_long a 16 w) refl (omega arith) r in
       begun_byte _ _ _ three 26 10 (simp (length-append, length_digits 2 a, length_digits 16 w, length_digits 8 s)) (omega arith)
 
-  pub answer_same : length (set (put_mid 18 8 (put_mid 2 16 (put_mid 0 2 out f) g) h) 26 10) ≡ length out
-  answer_same = same_length _ _ _ answer_begun
-
-  pub answer_laid : Laid true (answer_line a w s) out (set (put_mid 18 8 (put_mid 2 16 (put_mid 0 2 out f) g) h) 26 10) (Bytes 27)
+  pub answer_laid : Laid true (answer_line a w s) out (set (put_mid 18 8 (put_mid 2 16 (put_mid 0 2 out f) g) h) 26 10) (Ok 27)
   answer_laid = laid_all _ _ _ answer_begun 27 (answer_long a w s)

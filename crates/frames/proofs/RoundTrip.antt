@@ -15,10 +15,9 @@ use Rattle.frames.specs.Lines.{lays, Laid}
 use Rattle.frames.specs.declared.Entry.{Entry}
 use Rattle.frames.specs.declared.Order.{Order}
 use Rattle.frames.specs.declared.Order.TheVariants.{Setup, Insert, Take, Look, Held, Audit}
-use Rattle.frames.specs.declared.ReadFrame.{ReadFrame}
-use Rattle.frames.specs.declared.Written.{Written}
-use Rattle.frames.specs.declared.Written.TheVariants.{Bytes}
-use Rattle.frames.proofs.AnswerLaws.{read_same, written_same}
+use Rattle.frames.specs.declared.NotAFrame.{NotAFrame}
+use Rattle.std.specs.Prelude.{Result, Ok}
+use Rattle.frames.proofs.AnswerLaws.{back_same}
 use Rattle.frames.proofs.DigitLaws.{length_digits, number_digits}
 use Rattle.frames.proofs.Laying.{Came, laid_came}
 use Rattle.frames.proofs.EntryLaws.{word_below, word_entry, entry_again_writable, entry_fits}
@@ -79,14 +78,14 @@ other_is_refused l h = go (read_of l) (read_settled l) refl
     go b none e = refl
 
 -- what the writer leaves is read as the order that it wrote
-pub written_is_read : (o : Order) (out out' : List ℕ) (n : ℕ) → Fits o → Laid (writable o) (frame_of o) out out' (Bytes n) → read_of (take n out') ≡ done o
+pub written_is_read : (o : Order) (out out' : List ℕ) (n : ℕ) → Fits o → Laid (writable o) (frame_of o) out out' (Ok n) → read_of (take n out') ≡ done o
 written_is_read o out out' n f laid =
-    let came : Came (writable o) (frame_of o) out out' n = laid_came (writable o) (frame_of o) out out' (Bytes n) n laid refl in
+    let came : Came (writable o) (frame_of o) out out' n = laid_came (writable o) (frame_of o) out out' (Ok n) n laid refl in
     let line : take n out' ≡ frame_of o = rw came.after (take_at (frame_of o) (drop (length (frame_of o)) out) n came.count) in
     rw line (read_after_write o f came.could)
 
 -- what the reader took for an order is written again, where there is room for it
-pub read_is_written : (l : List ℕ) (o : Order) (out out' : List ℕ) (r : Written) → read_of l ≡ done o → length l ≤ length out → Laid (writable o) (frame_of o) out out' r
+pub read_is_written : (l : List ℕ) (o : Order) (out out' : List ℕ) (r : Result ℕ NotAFrame) → read_of l ≡ done o → length l ≤ length out → Laid (writable o) (frame_of o) out out' r
     → (written_back r ≡ done (length l)) × (out' ≡ l ++ drop (length l) out)
 read_is_written l o out out' r e h laid =
     let same : frame_of o ≡ l = write_after_read l o e in
@@ -94,8 +93,8 @@ read_is_written l o out out' r e h laid =
     (laid.answer ∙ rw (t, same) refl, laid.after ∙ rw (t, same) refl)
 
 -- two outcomes that meet one contract agree
-pub read_agrees : (l : List ℕ) (r s : ReadFrame) → read_back r ≡ read_of l → read_back s ≡ read_of l → r ≡ s
-read_agrees l r s a b = read_same r s (a ∙ sym b)
+pub read_agrees : (l : List ℕ) (r s : Result Order NotAFrame) → read_back r ≡ read_of l → read_back s ≡ read_of l → r ≡ s
+read_agrees l r s a b = back_same r s (a ∙ sym b)
 
-pub laid_agrees : (may : Bool) (line out out' out'' : List ℕ) (r s : Written) → Laid may line out out' r → Laid may line out out'' s → (r ≡ s) × (out' ≡ out'')
-laid_agrees may line out out' out'' r s a b = (written_same r s (a.answer ∙ sym b.answer), a.after ∙ sym b.after)
+pub laid_agrees : (may : Bool) (line out out' out'' : List ℕ) (r s : Result ℕ NotAFrame) → Laid may line out out' r → Laid may line out out'' s → (r ≡ s) × (out' ≡ out'')
+laid_agrees may line out out' out'' r s a b = (back_same r s (a.answer ∙ sym b.answer), a.after ∙ sym b.after)

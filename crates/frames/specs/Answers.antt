@@ -1,10 +1,7 @@
 -- "Where an answer is an enum, a definition gives this paper's number and values for each of its cases."
-use Rattle.std.specs.Prelude.{List, [], ◌∷◌, ℕ}
+use Rattle.std.specs.Prelude.{List, [], ◌∷◌, ℕ, Result, Ok, Err}
 use Rattle.frames.specs.declared.Order.{Order}
-use Rattle.frames.specs.declared.ReadFrame.{ReadFrame}
-use Rattle.frames.specs.declared.ReadFrame.TheVariants.{Order as Read, NotAFrame}
-use Rattle.frames.specs.declared.Written.{Written}
-use Rattle.frames.specs.declared.Written.TheVariants.{Bytes, Refused}
+use Rattle.frames.specs.declared.NotAFrame.{NotAFrame}
 
 -- the number that comes back, and what comes with it
 pub record Back (A : Type 0) : Type 0 where
@@ -19,12 +16,19 @@ done a = record { number = 0; values = a ∷ [] }
 abbrev pub refused : {A : Type 0} → Back A
 refused = record { number = 10; values = [] }
 
+-- the one error
+abbrev pub not_a_frame : NotAFrame
+not_a_frame = record {}
+
+-- what came of a reader or a writer
+abbrev pub back : {A : Type 0} → Result A NotAFrame → Back A
+back (Ok a) = done a
+back (Err _) = refused
+
 -- the reader's answer
-abbrev pub read_back : ReadFrame → Back Order
-read_back (Read o) = done o
-read_back NotAFrame = refused
+abbrev pub read_back : Result Order NotAFrame → Back Order
+read_back r = back r
 
 -- the writers'
-abbrev pub written_back : Written → Back ℕ
-written_back (Bytes n) = done n
-written_back Refused = refused
+abbrev pub written_back : Result ℕ NotAFrame → Back ℕ
+written_back r = back r

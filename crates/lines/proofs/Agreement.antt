@@ -4,21 +4,22 @@ use mathlib.Core.List.{List}
 use Prim.Native.Nat.{ℕ}
 use native.Mathlib.Omega.{arith}
 use Rattle.frames.specs.Answers.{read_back}
-use Rattle.frames.proofs.AnswerLaws.{read_same}
+use Rattle.frames.proofs.AnswerLaws.{back_same}
 use Rattle.lines.specs.Cutter.{kept, Cut, feed_of, last_of, Step, next_of}
 use Rattle.lines.specs.Answers.{ended_back, fed_back, next_back}
-use Rattle.lines.specs.declared.Ended.{Ended}
-use Rattle.lines.specs.declared.Ended.TheVariants.{Line, Nothing}
+use Rattle.frames.specs.declared.Order.{Order}
+use Rattle.frames.specs.declared.NotAFrame.{NotAFrame}
+use Rattle.std.specs.Prelude.{Option, Some, None, Result}
 use Rattle.lines.specs.declared.Fed.{Fed}
 use Rattle.lines.specs.declared.Next.{Next}
 
-pub ended_same : (r s : Ended) → ended_back r ≡ ended_back s → r ≡ s
-ended_same (Line a) (Line b) e = let h : read_back a ≡ read_back b = cc in ap Line (read_same a b h)
-ended_same (Line a) Nothing e = let z : ◌≡◌ {A = ℕ} 0 1 = cc in absurd (omega arith)
-ended_same Nothing (Line b) e = let z : ◌≡◌ {A = ℕ} 0 1 = cc in absurd (omega arith)
-ended_same Nothing Nothing e = refl
+pub ended_same : (r s : Option (Result Order NotAFrame)) → ended_back r ≡ ended_back s → r ≡ s
+ended_same (Some a) (Some b) e = let h : read_back a ≡ read_back b = cc in ap Some (back_same a b h)
+ended_same (Some a) None e = let z : ◌≡◌ {A = ℕ} 0 1 = cc in absurd (omega arith)
+ended_same None (Some b) e = let z : ◌≡◌ {A = ℕ} 0 1 = cc in absurd (omega arith)
+ended_same None None e = refl
 
-pub finish_agrees : (k : List ℕ) (r s : Ended) → ended_back r ≡ last_of k → ended_back s ≡ last_of k → r ≡ s
+pub finish_agrees : (k : List ℕ) (r s : Option (Result Order NotAFrame)) → ended_back r ≡ last_of k → ended_back s ≡ last_of k → r ≡ s
 finish_agrees k r s a b = ended_same r s (a ∙ sym b)
 
 pub feed_agrees : (k : List ℕ) (b : ℕ) (r s : Fed) → fed_back r ≡ feed_of k b → fed_back s ≡ feed_of k b → (r.ended ≡ s.ended) × (kept r.cutter ≡ kept s.cutter)

@@ -1,26 +1,27 @@
 -- What a cutter keeps decides what its line is read as.
 use mathlib.Core.Path.{◌≡◌, refl, ap, sym, ◌∙◌}
 use mathlib.Core.Bool.{Bool, true, false, cond}
-use mathlib.Core.List.{List, [], ◌∷◌, ◌++◌, map}
-use Prim.Native.Nat.{ℕ, ◌+◌, ◌<◌, ◌≤◌}
+use mathlib.Core.List.{List, [], ◌∷◌, ◌++◌}
+use Prim.Native.Nat.{ℕ, ◌<◌, ◌≤◌}
 use native.Mathlib.Decide.{dec_lt}
 use native.Mathlib.Omega.{arith}
-use native.Mathlib.Numerals.{add-one}
 use lib.Dec.{eqb}
-use lib.ListN.{length, take, set, length-take, length-append, length-map}
-use lib.Seq.{take_all, take-append-le, take-take, take-suc-set, length-take-le}
+use lib.ListN.{length, take, length-take}
+use lib.Seq.{take_all, take-append-le, take-take, length-take-le}
+use Rattle.std.proofs.lemmas.List.{nil_from_length}
 use borrow.Author.Tests.{eq-eqb, ne_eqb}
-use Rattle.frames.specs.Answers.{refused, read_back}
+use Rattle.frames.specs.Answers.{Back, refused, read_back}
 use Rattle.frames.specs.Digits.{number}
 use Rattle.frames.specs.Orders.{width_of}
 use Rattle.frames.specs.Frames.{read_of}
-use Rattle.frames.specs.declared.ReadFrame.{ReadFrame}
+use Rattle.frames.specs.declared.Order.{Order}
+use Rattle.frames.specs.declared.NotAFrame.{NotAFrame}
 use Rattle.frames.proofs.FrameLaws.{read_other}
 use Rattle.lines.specs.Lines.{line_after, ended_by, last_line}
 use Rattle.lines.specs.Cutter.{decisive, kept, feed_of, last_of}
 use Rattle.lines.specs.Answers.{fed_back}
 use Rattle.lines.specs.declared.Cutter.{Cutter}
-use Rattle.lines.specs.declared.Ended.TheVariants.{Line, Nothing}
+use Rattle.std.specs.Prelude.{Some, None, Result}
 
 width_short : (c : ℕ) → width_of c ≤ 16
 width_short c = go (eqb c 0) (eqb c 1)
@@ -52,34 +53,17 @@ decisive_onward l b =
 
 -- the code's cutters: their bytes are as many as the array has
 
-pub array_length : (xs : List ℕ) (n : ℕ) → length (map (λ (v : ℕ). v) xs) ≡ n → length xs ≡ n
-array_length xs n e = sym (length-map xs (λ (v : ℕ). v)) ∙ e
-
 module _ (c : Cutter) (long : length c.bytes ≡ 19) where
-  pub kept_length : c.len < 19 → c.len ≡ length (kept c)
-  kept_length h = sym (length-take-le c.len c.bytes (omega arith))
-
   pub kept_decisive : decisive (kept c) ≡ kept c
   kept_decisive = take_all 19 (kept c) (simp length-take (omega arith))
 
   pub kept_all : 19 ≤ c.len → kept c ≡ c.bytes
   kept_all h = take_all c.len c.bytes (omega arith)
 
-  pub kept_more : (b : ℕ) → c.len < 19 → take (c.len + 1) (set c.bytes c.len b) ≡ decisive (kept c ++ (b ∷ []))
-  kept_more b h =
-      rw add-one (take-suc-set c.bytes c.len b (omega arith))
-      ∙ sym (take_all 19 (kept c ++ (b ∷ [])) (simp (length-append, ← kept_length h) (omega arith)))
-
   pub kept_full : (b : ℕ) → 19 ≤ c.len → kept c ≡ decisive (kept c ++ (b ∷ []))
   kept_full b h =
       let e : kept c ≡ c.bytes = kept_all h in
       rw e (sym (take-append-le 19 c.bytes (b ∷ []) (omega arith) ∙ take_all 19 c.bytes (omega arith)))
-
-  pub full_refused : 19 ≤ c.len → refused ≡ read_of (kept c)
-  full_refused h = let e : kept c ≡ c.bytes = kept_all h in rw e (long_refused c.bytes (omega arith))
-
-  pub kept_some : (c.len ≡ 0 → ⊥) → 0 < length (kept c)
-  kept_some h = simp length-take (omega arith)
 
 -- one byte
 
@@ -93,19 +77,23 @@ module _ (k : List ℕ) (b : ℕ) where
   feed_onward h = rw (ne_eqb b 10 h) refl
 
 module _ (k : List ℕ) (b : ℕ) (c : Cutter) where
-  pub fed_end : (f : ReadFrame) → b ≡ 10 → kept c ≡ [] → read_back f ≡ read_of k → fed_back (record { cutter = c; ended = Line f }) ≡ feed_of k b
+  pub fed_end : (f : Result Order NotAFrame) → b ≡ 10 → kept c ≡ [] → read_back f ≡ read_of k → fed_back (record { cutter = c; ended = Some f }) ≡ feed_of k b
   fed_end f h e r = rw (e, r) (feed_end k b h)
 
-  pub fed_onward : (b ≡ 10 → ⊥) → kept c ≡ decisive (k ++ (b ∷ [])) → fed_back (record { cutter = c; ended = Nothing }) ≡ feed_of k b
+  pub fed_onward : (b ≡ 10 → ⊥) → kept c ≡ decisive (k ++ (b ∷ [])) → fed_back (record { cutter = c; ended = None }) ≡ feed_of k b
   fed_onward h e = rw e (feed_onward k b h)
 
 -- the last line
 
-pub last_none : (k : List ℕ) → k ≡ [] → [] ≡ last_of k
+some : (l : List ℕ) → 0 < length l → read_of l ∷ [] ≡ last_of l
 unfolding last_line
-last_none k e = rw e refl
+some [] h = absurd (omega arith)
+some (b ∷ l) h = refl
 
-pub last_some : (k : List ℕ) → 0 < length k → read_of k ∷ [] ≡ last_of k
-unfolding last_line
-last_some [] h = absurd (omega arith)
-last_some (b ∷ k) h = refl
+module _ {k line : List ℕ} (same : line ≡ k) where
+  pub last_none : length line ≡ 0 → [] ≡ last_of k
+  unfolding last_line
+  last_none h = ap last_of (sym (nil_from_length line h) ∙ same)
+
+  pub last_some : {r : Back Order} → 0 < length line → r ≡ read_of line → r ∷ [] ≡ last_of k
+  last_some h e = ap (λ (r : Back Order). r ∷ []) e ∙ some line h ∙ ap last_of same

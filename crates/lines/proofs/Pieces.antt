@@ -9,12 +9,9 @@ use Rattle.frames.specs.declared.Order.{Order}
 use Rattle.lines.specs.Lines.{line_after, ended_by, ended_within, left_by, last_line, orders_of}
 use Rattle.lines.specs.Cutter.{decisive, kept, Seen, feed_of, last_of, kept_after, orders_from, orders_of_pieces}
 use Rattle.lines.specs.declared.Cutter.{Cutter}
+use Rattle.std.proofs.lemmas.List.{map-append}
 use Rattle.lines.proofs.LineLaws.{by_end}
 use Rattle.lines.proofs.CutterLaws.{read_decisive, decisive_onward}
-
-map-append : {A B : Type 0} (f : A → B) (xs ys : List A) → map f (xs ++ ys) ≡ map f xs ++ map f ys
-map-append f [] ys = refl
-map-append f (x ∷ xs) ys = ap (λ (r : List _). f x ∷ r) (map-append f xs ys)
 
 -- the state after some bytes is all that the next need
 

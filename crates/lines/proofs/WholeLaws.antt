@@ -1,47 +1,68 @@
 -- A line that stands whole in a piece is read where it stands.
-use mathlib.Core.Path.{◌≡◌, refl, ap, sym, ◌∙◌}
-use mathlib.Core.Bool.{true, false}
+use mathlib.Core.Path.{◌≡◌, refl, ap, sym, ◌∙◌, subst}
+use mathlib.Core.Bool.{Bool, true, false, cond, not}
+use native.Mathlib.Numerals.{add-one}
+use Rattle.std.specs.Prelude.{position}
+use Rattle.std.specs.List.{position_or_len}
+use Rattle.std.proofs.lemmas.List.Sums.{split_at_first, passes_at_first}
 use mathlib.Core.List.{List, [], ◌∷◌, ◌++◌, append_assoc, append-nil}
-use mathlib.Core.Logic.{inl, inr}
-use Prim.Native.Nat.{ℕ, suc, ◌+◌, ◌-◌, ◌<◌, ◌≤◌}
+use Prim.Native.Nat.{ℕ, suc, min, ◌+◌, ◌<◌, ◌≤◌}
 use native.Mathlib.Omega.{arith}
+use native.Mathlib.Decide.{dec_lt}
 use lib.Dec.{eqb}
 use lib.ListN.{length, take, drop, get_or, length-append, length-drop, take-append-drop, drop_of_length-le}
-use lib.Seq.{take-suc, take-add, take_all, take-append-le, drop-drop, drop-cons, get_or-drop, length-take-le}
-use borrow.Author.Tests.{ne_eqb}
-use Rattle.frames.specs.Answers.{Back, refused, read_back}
+use lib.Seq.{take-suc, take_all, take-append-le, length-take-le}
+use borrow.Author.Tests.{lt-ltb, le-ltb, eqb-true}
+use Rattle.frames.specs.Answers.{Back, read_back}
 use Rattle.frames.specs.Frames.{read_of}
 use Rattle.frames.specs.declared.Order.{Order}
-use Rattle.frames.specs.declared.ReadFrame.{ReadFrame}
-use Rattle.lines.specs.Lines.{line_after, ended_by, plain, between, EndsAt, Stops}
+use Rattle.frames.specs.declared.NotAFrame.{NotAFrame}
+use Rattle.lines.specs.Lines.{line_after, ended_by, plain}
 use Rattle.lines.specs.Cutter.{decisive, kept, Step, next_of}
 use Rattle.lines.specs.Answers.{next_back}
 use Rattle.lines.specs.declared.Cutter.{Cutter}
-use Rattle.lines.specs.declared.Ended.TheVariants.{Line, Nothing}
-use Rattle.lines.proofs.LineLaws.{plain_append, other, rest_plain}
-use Rattle.lines.proofs.CutterLaws.{long_refused, read_decisive, decisive_onward}
+use Rattle.std.specs.Prelude.{Some, None, Result}
+use Rattle.lines.proofs.LineLaws.{by_end, other, rest_plain}
+use Rattle.lines.proofs.CutterLaws.{read_decisive, decisive_onward}
 
 -- ---- the search for a line end
 
-module _ (piece : List ℕ) (at : ℕ) where
-  pub none_plain : plain (between at at piece) ≡ true
-  unfolding plain
-  none_plain =
-      let none : at - at ≡ 0 = omega arith in
-      ap (λ (n : ℕ). plain (take n (drop at piece))) none
+-- the first line end, and nothing before it
+record FirstEnd (bytes : List ℕ) (end : ℕ) : Type 0 where
+  inside : end < length bytes
+  before : plain (take end bytes) ≡ true
+  there : bytes ≡ take end bytes ++ (10 ∷ drop (end + 1) bytes)
 
-  one_more : (i : ℕ) → at ≤ i → i < length piece → between at (i + 1) piece ≡ between at i piece ++ (get_or piece i 0 ∷ [])
-  one_more i h g =
-      let next : i + 1 - at ≡ suc (i - at) = omega arith in
-      let there : at + (i - at) ≡ i = omega arith in
-      let inside : i - at < length (drop at piece) = omega (arith, length-drop at piece) in
-      ap (λ (n : ℕ). take n (drop at piece)) next ∙ take-suc (drop at piece) (i - at) 0 inside
-      ∙ ap (λ (b : ℕ). between at i piece ++ (b ∷ [])) (get_or-drop at piece (i - at) 0 ∙ ap (λ (n : ℕ). get_or piece n 0) there)
+abbrev ends : ℕ → Bool
+ends b = eqb b 10
 
-  pub more_plain : (i : ℕ) → at ≤ i → i < length piece → plain (between at i piece) ≡ true → (get_or piece i 0 ≡ 10 → ⊥) → plain (between at (i + 1) piece) ≡ true
-  unfolding plain
-  more_plain i h g p n =
-      ap plain (one_more i h g) ∙ plain_append (between at i piece) (get_or piece i 0 ∷ []) p (rw (ne_eqb (get_or piece i 0) 10 n) refl)
+plain_front : (bytes : List ℕ) → plain (take (position_or_len ends bytes) bytes) ≡ true
+unfolding plain
+plain_front [] = refl
+plain_front (b ∷ bs) =
+    let next : 1 + position_or_len ends bs ≡ suc (position_or_len ends bs) = omega arith in
+    by_end (λ (t : Bool). plain (take (cond (not t) (1 + position_or_len ends bs) 0) (b ∷ bs)) ≡ true) b
+    (λ e. refl) (λ e. rw (next, e) (plain_front bs))
+
+first_end : (bytes : List ℕ) (end : ℕ) → position ends bytes ≡ Some end → FirstEnd bytes end
+first_end bytes end e =
+    let n = position_or_len ends bytes in
+    elim (dec_lt n (length bytes)) [
+      | yes h ↦
+          let found = rw (lt-ltb n (length bytes) h) at e in
+          let same : n ≡ end = cc in
+          let byte : get_or bytes n 0 ≡ 10 = eqb-true (get_or bytes n 0) 10 (passes_at_first ends bytes 0 h) in
+          subst (FirstEnd bytes) same record { inside = h; before = plain_front bytes; there = rw byte at (split_at_first ends bytes 0 h) }
+      | no g ↦ let none = rw (le-ltb n (length bytes) (omega arith)) at e in absurd (cc)
+    ]
+
+no_end : (bytes : List ℕ) → position ends bytes ≡ None → plain bytes ≡ true
+no_end bytes e =
+    let n = position_or_len ends bytes in
+    elim (dec_lt n (length bytes)) [
+      | yes h ↦ let found = rw (lt-ltb n (length bytes) h) at e in absurd (cc)
+      | no g ↦ rw (take_all n bytes (omega arith)) at (plain_front bytes)
+    ]
 
 -- ---- the line that it ends
 
@@ -76,88 +97,71 @@ next_none line (b ∷ l) at p =
     next_past line at b l (other b l p) ∙ next_none (line ++ (b ∷ [])) l (at + 1) (rest_plain b l p)
     ∙ ap (λ (z : List ℕ). open_line z (at + 1 + length l)) (append_assoc line (b ∷ []) l) ∙ ap (λ (n : ℕ). open_line (line ++ (b ∷ l)) n) far
 
-module _ (piece : List ℕ) (at end : ℕ) (e : EndsAt piece at end) (k : List ℕ) (short : decisive k ≡ k) where
-  module _ (h : end < length piece) where
-    whole_there : drop at piece ≡ between at end piece ++ (10 ∷ drop (suc end) piece)
-    whole_there =
-        let place : at + (end - at) ≡ end = omega (arith, e.behind) in
-        sym (take-append-drop (end - at) (drop at piece))
-        ∙ ap (λ (z : List ℕ). between at end piece ++ z)
-        (drop-drop (end - at) at piece ∙ ap (λ (n : ℕ). drop n piece) place ∙ drop-cons piece end 0 h ∙ ap (λ (b : ℕ). b ∷ drop (suc end) piece) (e.there h))
+module _ (at : ℕ) (bytes k : List ℕ) (short : decisive k ≡ k) where
+  -- the line ends within the bytes
+  ends_within : (end : ℕ) (c : Cutter) (f : Result Order NotAFrame) → position ends bytes ≡ Some end → kept c ≡ [] → read_back f ≡ read_of (k ++ take end bytes)
+      → next_back (record { cutter = c; at = at + end + 1; ended = Some f }) ≡ next_of k at bytes
+  ends_within end c f e none r =
+      let first : FirstEnd bytes end = first_end bytes end e in
+      let long : length (take end bytes) ≡ end = length-take-le end bytes (omega (arith, first.inside)) in
+      let found : next_of k at bytes ≡ ended (k ++ take end bytes) (at + end + 1) =
+      ap (λ (z : List ℕ). next_of z at bytes) (sym short) ∙ ap (next_of (decisive k) at) first.there
+      ∙ next_plain (drop (end + 1) bytes) k (take end bytes) at first.before ∙ ap (λ (n : ℕ). ended (k ++ take end bytes) (at + n + 1)) long in
+      rw (none, r) (sym found)
 
-    between_long : length (between at end piece) ≡ end - at
-    between_long = length-take-le (end - at) (drop at piece) (omega (arith, length-drop at piece))
-
-    -- the line ends in the piece
-    pub line_ends : (c : Cutter) (f : ReadFrame) → kept c ≡ [] → read_back f ≡ read_of (k ++ between at end piece)
-        → next_back (record { cutter = c; at = end + 1; ended = Line f }) ≡ next_of k at (drop at piece)
-    line_ends c f none r =
-        let place : end + 1 ≡ at + length (between at end piece) + 1 = omega (arith, between_long, e.behind) in
-        let found : next_of k at (drop at piece) ≡ ended (k ++ between at end piece) (end + 1) =
-        ap (λ (z : List ℕ). next_of z at (drop at piece)) (sym short) ∙ ap (next_of (decisive k) at) whole_there
-        ∙ next_plain (drop (suc end) piece) k (between at end piece) at e.before ∙ ap (ended (k ++ between at end piece)) (sym place) in
-        rw (none, r) (sym found)
-
-  -- or goes on behind it
-  pub line_open : at ≤ length piece → length piece ≤ end → (c : Cutter) → kept c ≡ decisive (k ++ between at end piece)
-      → next_back (record { cutter = c; at = end; ended = Nothing }) ≡ next_of k at (drop at piece)
-  line_open inside over c r =
-      let last : end ≡ length piece = omega (arith, e.inside inside) in
-      let all : between at end piece ≡ drop at piece = take_all (end - at) (drop at piece) (omega (arith, length-drop at piece)) in
-      let place : end ≡ at + length (between at end piece) = omega (arith, ap length all, length-drop at piece) in
-      let found : next_of k at (drop at piece) ≡ open_line (k ++ between at end piece) end =
-      ap (λ (z : List ℕ). next_of z at (drop at piece)) (sym short) ∙ ap (next_of (decisive k) at) (sym all)
-      ∙ next_none k (between at end piece) at e.before ∙ ap (open_line (k ++ between at end piece)) (sym place) in
+  -- or goes on behind them
+  goes_on : (behind : ℕ) (c : Cutter) → behind ≡ at + length bytes → position ends bytes ≡ None → kept c ≡ decisive (k ++ bytes)
+      → next_back (record { cutter = c; at = behind; ended = None }) ≡ next_of k at bytes
+  goes_on behind c b e r =
+      let found : next_of k at bytes ≡ open_line (k ++ bytes) behind =
+      ap (λ (z : List ℕ). next_of z at bytes) (sym short) ∙ next_none k bytes at (no_end bytes e) ∙ ap (open_line (k ++ bytes)) (sym b) in
       rw r (sym found)
 
+-- the same of what is left of a piece
+module _ (piece rest : List ℕ) (at : ℕ) (k : List ℕ) (short : decisive k ≡ k) (left : rest ≡ drop at piece) where
+  pub line_ends : (end : ℕ) (c : Cutter) (f : Result Order NotAFrame) → position ends rest ≡ Some end → kept c ≡ [] → read_back f ≡ read_of (k ++ take end rest)
+      → next_back (record { cutter = c; at = at + end + 1; ended = Some f }) ≡ next_of k at (drop at piece)
+  line_ends end c f e none r = ends_within at rest k short end c f e none r ∙ ap (next_of k at) left
+
+  pub line_open : at ≤ length piece → (c : Cutter) → position ends rest ≡ None → kept c ≡ decisive (k ++ rest)
+      → next_back (record { cutter = c; at = length piece; ended = None }) ≡ next_of k at (drop at piece)
+  line_open h c e r =
+      let behind : length piece ≡ at + length rest = omega (arith, ap length left, length-drop at piece) in
+      goes_on at rest k short (length piece) c behind e r ∙ ap (next_of k at) left
+
 -- nothing is left of the piece
-pub line_over : (piece : List ℕ) (at : ℕ) (c : Cutter) → length piece ≤ at → next_back (record { cutter = c; at = at; ended = Nothing }) ≡ next_of (kept c) at (drop at piece)
+pub line_over : (piece : List ℕ) (at : ℕ) (c : Cutter) → length piece ≤ at → next_back (record { cutter = c; at = at; ended = None }) ≡ next_of (kept c) at (drop at piece)
 unfolding next_of
 line_over piece at c h = rw (drop_of_length-le piece h) refl
 
 -- ---- what is kept
 
-module _ (piece : List ℕ) (at : ℕ) (k : List ℕ) where
-  pub keep_starts : decisive k ≡ k → k ≡ decisive (k ++ between at at piece)
-  keep_starts short =
-      let none : at - at ≡ 0 = omega arith in
-      sym (ap (λ (n : ℕ). decisive (k ++ take n (drop at piece))) none ∙ ap decisive (append-nil k) ∙ short)
+pub keep_starts : (k bytes : List ℕ) → decisive k ≡ k → k ≡ decisive (k ++ take 0 bytes)
+keep_starts k bytes short = sym (ap decisive (append-nil k) ∙ short)
 
-  pub keep_on : (i : ℕ) (now later : List ℕ) → at ≤ i → i < length piece → now ≡ decisive (k ++ between at i piece) → later ≡ decisive (now ++ (get_or piece i 0 ∷ []))
-      → later ≡ decisive (k ++ between at (i + 1) piece)
-  keep_on i now later h g n l =
-      l ∙ ap (λ (z : List ℕ). decisive (z ++ (get_or piece i 0 ∷ []))) n ∙ decisive_onward (k ++ between at i piece) (get_or piece i 0)
-      ∙ ap decisive (append_assoc k (between at i piece) (get_or piece i 0 ∷ []) ∙ ap (λ (z : List ℕ). k ++ z) (sym (one_more piece at i h g)))
+-- one byte more
+pub keep_on : (k bytes now later : List ℕ) (i : ℕ) → i < length bytes → now ≡ decisive (k ++ take i bytes) → later ≡ decisive (now ++ (get_or bytes i 0 ∷ []))
+    → later ≡ decisive (k ++ take (i + 1) bytes)
+keep_on k bytes now later i h n l =
+    let more : take (i + 1) bytes ≡ take i bytes ++ (get_or bytes i 0 ∷ []) = rw add-one (take-suc bytes i 0 h) in
+    l ∙ ap (λ (z : List ℕ). decisive (z ++ (get_or bytes i 0 ∷ []))) n ∙ decisive_onward (k ++ take i bytes) (get_or bytes i 0)
+    ∙ ap decisive (append_assoc k (take i bytes) (get_or bytes i 0 ∷ []) ∙ ap (λ (z : List ℕ). k ++ z) (sym more))
 
-  -- behind the bytes that decide it makes no difference where reading stops
-  pub keep_stops : (end stop : ℕ) → at ≤ end → end ≤ length piece → Stops at end stop → decisive (k ++ between at stop piece) ≡ decisive (k ++ between at end piece)
-  keep_stops end stop h g (inl e) = ap (λ (n : ℕ). decisive (k ++ between at n piece)) e
-  keep_stops end stop h g (inr s) =
-      let many : stop - at ≡ 19 = omega (arith, s.0) in
-      let all : end - at ≡ (stop - at) + (end - stop) = omega (arith, s.0, s.1) in
-      let more : between at end piece ≡ between at stop piece ++ take (end - stop) (drop (stop - at) (drop at piece)) =
-      ap (λ (n : ℕ). take n (drop at piece)) all ∙ take-add (stop - at) (end - stop) (drop at piece) in
-      let long : length (between at stop piece) ≡ 19 = length-take-le (stop - at) (drop at piece) (omega (arith, s.1, length-drop at piece)) ∙ many in
-      sym (ap (λ (z : List ℕ). decisive (k ++ z)) more ∙ ap decisive (sym (append_assoc k (between at stop piece) _))
-      ∙ take-append-le 19 (k ++ between at stop piece) _ (simp length-append (omega arith)))
+-- behind the bytes that decide it makes no difference where reading stops
+keep_all : (k bytes : List ℕ) (n : ℕ) → n ≡ min (length bytes) 19 → decisive (k ++ take n bytes) ≡ decisive (k ++ bytes)
+keep_all k bytes n e =
+    elim (dec_lt (length bytes) 19) [
+      | yes h ↦ let m : n ≡ length bytes = omega arith in ap (λ (z : List ℕ). decisive (k ++ z)) (take_all n bytes (omega arith))
+      | no g ↦
+          let m : n ≡ 19 = omega arith in
+          let long : length (take n bytes) ≡ 19 = length-take-le n bytes (omega arith) ∙ m in
+          sym (ap (λ (z : List ℕ). decisive (k ++ z)) (sym (take-append-drop n bytes)) ∙ ap decisive (sym (append_assoc k (take n bytes) (drop n bytes)))
+          ∙ take-append-le 19 (k ++ take n bytes) (drop n bytes) (simp length-append (omega arith)))
+    ]
 
-  pub keep_ends : (end stop i : ℕ) (now : List ℕ) → at ≤ end → end ≤ length piece → Stops at end stop → i ≡ stop → now ≡ decisive (k ++ between at i piece) → now ≡ decisive (k ++ between at end piece)
-  keep_ends end stop i now h g s e n = n ∙ ap (λ (m : ℕ). decisive (k ++ between at m piece)) e ∙ keep_stops end stop h g s
+pub keep_ends : (k bytes now : List ℕ) (n i : ℕ) → n ≡ min (length bytes) 19 → length (take n bytes) ≤ i → now ≡ decisive (k ++ take i (take n bytes)) → now ≡ decisive (k ++ bytes)
+keep_ends k bytes now n i e h r = r ∙ ap (λ (z : List ℕ). decisive (k ++ z)) (take_all i (take n bytes) h) ∙ keep_all k bytes n e
 
-pub stops_behind : (at end stop : ℕ) → at ≤ end → Stops at end stop → at ≤ stop
-stops_behind at end stop h (inl e) = omega arith
-stops_behind at end stop h (inr s) = omega (arith, s.0)
-
-pub stops_inside : (at end stop : ℕ) → Stops at end stop → stop ≤ end
-stops_inside at end stop (inl e) = omega arith
-stops_inside at end stop (inr s) = s.1
-
--- a line that is longer than every frame is not read
-pub read_long : (piece : List ℕ) (at end : ℕ) → end ≤ length piece → 19 ≤ end - at → refused ≡ read_of (between at end piece)
-read_long piece at end h g = long_refused (between at end piece) (omega (arith, length-take-le (end - at) (drop at piece) (omega (arith, length-drop at piece))))
-
+-- the line that has begun
 pub read_begun : (k more l : List ℕ) (r : Back Order) → l ≡ decisive (k ++ more) → r ≡ read_of l → r ≡ read_of (k ++ more)
 read_begun k more l r e f = f ∙ ap read_of e ∙ read_decisive (k ++ more)
-
-pub read_fresh : (k more : List ℕ) (r : Back Order) → k ≡ [] → r ≡ read_of more → r ≡ read_of (k ++ more)
-read_fresh k more r e f = rw e f

@@ -1,5 +1,5 @@
 -- "One frame a line .. line end 0A; a last line without it counts if it has at least one byte."
-use Rattle.std.specs.Prelude.{Bool, true, cond, not, ◌&&◌, List, [], ◌∷◌, ◌++◌, map, ◌≡◌, ◌⊎◌, ℕ, ◌+◌, ◌-◌, ◌≤◌, ◌<◌, length, take, drop, get_or, eqb}
+use Rattle.std.specs.Prelude.{Bool, true, cond, not, ◌&&◌, List, [], ◌∷◌, ◌++◌, map, ℕ, ◌-◌, take, drop, eqb}
 use Rattle.frames.specs.Answers.{Back}
 use Rattle.frames.specs.Frames.{read_of}
 use Rattle.frames.specs.declared.Order.{Order}
@@ -51,14 +51,3 @@ together (l ∷ ls) = l ++ (10 ∷ together ls)
 -- the bytes of a piece from one place to another
 abbrev pub between : ℕ → ℕ → List ℕ → List ℕ
 between at end piece = take (end - at) (drop at piece)
-
--- the first line end from a place on, or where the piece ends
-pub record EndsAt (piece : List ℕ) (at end : ℕ) : Type 0 where
-  pub behind : at ≤ end
-  pub inside : at ≤ length piece → end ≤ length piece
-  pub before : plain (between at end piece) ≡ true
-  pub there : end < length piece → get_or piece end 0 ≡ 10
-
--- a place between two others, behind as many bytes as decide what a line is read as, or the last
-abbrev pub Stops : ℕ → ℕ → ℕ → Type 0
-Stops at end stop = (stop ≡ end) ⊎ ((stop ≡ at + 19) × (stop ≤ end))
