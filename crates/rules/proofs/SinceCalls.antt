@@ -6,9 +6,7 @@ use mathlib.Core.List.{List, [], ◌∷◌}
 use native.Mathlib.Omega.{arith}
 use native.Mathlib.Nat.{add-zero, zero-add, add_assoc}
 use lib.Dec.{T, T_not}
-use Rattle.rules.specs.declared.Answer.{Answer}
-use Rattle.rules.specs.declared.Answer.TheVariants.{Done}
-use Rattle.rules.specs.Answers.{is_done}
+use Rattle.rules.specs.Answers.{Answer, Done, is_done}
 use Rattle.rules.specs.Tree.{Tree, entries, tree_of}
 use Rattle.rules.specs.Merge.{merge_step}
 use Rattle.rules.specs.Take.{ready, take_one, insertion}

@@ -2,7 +2,7 @@
 #![tactic(auto)]
 
 ghost use Rattle.std.specs.Prelude.{◌≡◌, ◌+◌, ◌≤◌, ◌<◌};
-ghost use Rattle.rules.specs.Answers.{number_of};
+ghost use Rattle.rules.specs.Answers.{number_of, answer_as, answer_in, Numbered};
 ghost use Rattle.rules.specs.Links.{k, s, first, capacity, start, offset, most, most_links, words, LinkNumber, InLink};
 
 // A link, by its number from 1 on. Whoever needs a size asks here.
@@ -37,72 +37,72 @@ impl Link {
     }
 
     // How many S the link has.
+    #[tactic(auto, using(crate::proofs::Table::at_link), unfolding(crate::specs::Links::k))]
     pub fn k(self) -> usize
         requires { LinkNumber self.i }
         ensures { result ≡ k self.i }
     {
-        let i = self.i;
-        match i {
+        match self.i {
             0..=1 => 2,
-            2..=2 => 4,
-            3..=3 => 8,
+            2 => 4,
+            3 => 8,
             _ => 16,
         }
     }
 
     // The capacity of each S.
+    #[tactic(auto, using(crate::proofs::Table::at_link), unfolding(crate::specs::Links::s))]
     pub fn s(self) -> usize
         requires { LinkNumber self.i }
         ensures { result ≡ s self.i }
     {
-        let i = self.i;
-        match i {
+        match self.i {
             0..=1 => 8,
-            2..=2 => 24,
-            3..=3 => 120,
+            2 => 24,
+            3 => 120,
             _ => 1080,
         }
     }
 
     // The number of the link's A among all buffers; one past the last link it is how many buffers there are.
+    #[tactic(auto, using(crate::proofs::Table::at_link), unfolding(crate::specs::Links::first))]
     pub fn first(self) -> usize
         requires { (1 ≤ self.i) × (self.i ≤ most_links + 1) }
         ensures { result ≡ first self.i }
     {
-        let i = self.i;
-        match i {
+        match self.i {
             0..=1 => 1,
-            2..=2 => 5,
-            3..=3 => 13,
-            4..=4 => 29,
+            2 => 5,
+            3 => 13,
+            4 => 29,
             _ => 61,
         }
     }
 
     // The most entries that a queue whose last link this is holds.
+    #[tactic(auto, using(crate::proofs::Table::at_link), unfolding(crate::specs::Links::most))]
     pub fn most(self) -> usize
         requires { LinkNumber self.i }
         ensures { result ≡ most self.i }
     {
-        let i = self.i;
-        match i {
+        match self.i {
             0..=1 => 16,
-            2..=2 => 96,
-            3..=3 => 960,
+            2 => 96,
+            3 => 960,
             _ => 17280,
         }
     }
 
     // The words that it needs.
+    #[tactic(auto, using(crate::proofs::Table::at_link), unfolding(crate::specs::Links::words))]
     pub fn words(self) -> usize
         requires { LinkNumber self.i }
         ensures { result ≡ words self.i }
     {
-        let i = self.i;
-        match i {
+        match self.i {
             0..=1 => 296,
-            2..=2 => 536,
-            3..=3 => 2628,
+            2 => 536,
+            3 => 2628,
             _ => 28436,
         }
     }
@@ -112,15 +112,14 @@ impl Link {
         requires { InLink self.i j }
         ensures { result ≡ capacity self.i j }
     {
-        let i = self.i;
-        match i {
+        match self.i {
             0..=1 => 8,
-            2..=2 => match j {
+            2 => match j {
                 0..=1 => 64,
                 2..=3 => 8,
                 _ => 24,
             },
-            3..=3 => match j {
+            3 => match j {
                 0..=1 => 512,
                 2..=3 => 8,
                 4..=7 => 23,
@@ -141,15 +140,14 @@ impl Link {
         requires { InLink self.i j }
         ensures { result ≡ start self.i + offset self.i j }
     {
-        let i = self.i;
-        match i {
+        match self.i {
             0..=1 => 8 + 8 * j,
-            2..=2 => match j {
+            2 => match j {
                 0..=1 => 40 + 64 * j,
                 2..=3 => 168 + 8 * (j - 2),
                 _ => 184 + 24 * (j - 4),
             },
-            3..=3 => match j {
+            3 => match j {
                 0..=1 => 280 + 512 * j,
                 2..=3 => 1304 + 8 * (j - 2),
                 4..=7 => 1320 + 23 * (j - 4),
@@ -170,10 +168,9 @@ impl Link {
 #[derive(Clone, Copy)]
 pub struct Rule {}
 
-// What a call answers.
-#[derive(Clone, Copy)]
-pub enum Answer {
-    Done,
+// Why a call changes nothing.
+#[derive(Clone, Copy, Debug, PartialEq, Eq)]
+pub enum Refusal {
     NoSuchLinks,
     ArrayShort,
     WorkShort,
@@ -185,20 +182,67 @@ pub enum Answer {
     NotAFrame,
 }
 
-// The answer's number on paper.
-pub fn number_of(answer: Answer) -> u8
-    ensures { result ≡ number_of answer }
+// A refusal's number on paper.
+impl From<Refusal> for u8 {
+    ghost from_gives = { λ r n. n ≡ number_of (answer_as r) };
+
+    fn from(refusal: Refusal) -> u8 {
+        match refusal {
+            Refusal::NoSuchLinks => 1,
+            Refusal::ArrayShort => 2,
+            Refusal::WorkShort => 3,
+            Refusal::BookBroken => 4,
+            Refusal::Full => 5,
+            Refusal::NoneHeld => 6,
+            Refusal::DoorAbove => 7,
+            Refusal::OrderBroken => 9,
+            Refusal::NotAFrame => 10,
+        }
+    }
+}
+
+// A number that no refusal has.
+#[derive(Clone, Copy, Debug, PartialEq, Eq)]
+pub struct NoRefusal(pub u8);
+
+impl TryFrom<u8> for Refusal {
+    type Error = NoRefusal;
+
+    ghost try_from_gives = { Numbered };
+
+    fn try_from(number: u8) -> Result<Self, NoRefusal> {
+        match number {
+            1 => Ok(Refusal::NoSuchLinks),
+            2 => Ok(Refusal::ArrayShort),
+            3 => Ok(Refusal::WorkShort),
+            4 => Ok(Refusal::BookBroken),
+            5 => Ok(Refusal::Full),
+            6 => Ok(Refusal::NoneHeld),
+            7 => Ok(Refusal::DoorAbove),
+            9 => Ok(Refusal::OrderBroken),
+            10 => Ok(Refusal::NotAFrame),
+            _ => Err(NoRefusal(number)),
+        }
+    }
+}
+
+// What a call that is done gives back; an insert says whether it packed.
+#[derive(Clone, Copy, Debug, Default, PartialEq, Eq)]
+pub struct Done {
+    pub word: u64,
+    pub steps: u64,
+    pub packed: bool,
+}
+
+// What a call answers.
+pub type Outcome = Result<Done, Refusal>;
+
+// The answer's number on paper, 0 where the call is done.
+pub fn number_of(outcome: Outcome) -> u8
+    ensures { result ≡ number_of (answer_in outcome) }
 {
-    match answer {
-        Answer::Done => 0,
-        Answer::NoSuchLinks => 1,
-        Answer::ArrayShort => 2,
-        Answer::WorkShort => 3,
-        Answer::BookBroken => 4,
-        Answer::Full => 5,
-        Answer::NoneHeld => 6,
-        Answer::DoorAbove => 7,
-        Answer::OrderBroken => 9,
-        Answer::NotAFrame => 10,
+    match outcome {
+        Ok(_) => 0,
+        Err(refusal) => refusal.into(),
     }
 }

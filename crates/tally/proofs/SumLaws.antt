@@ -4,9 +4,8 @@ use Prim.Native.Nat.{ℕ, ◌+◌, ◌≤◌}
 use mathlib.Core.List.{List, [], ◌∷◌}
 use native.Mathlib.Omega.{arith}
 use Rattle.tally.specs.declared.Call.{Call}
-use Rattle.tally.specs.declared.Outcome.{Outcome}
 use Rattle.tally.specs.declared.Tally.{Tally}
-use Rattle.tally.specs.Day.{nothing, largest, plus, plus_each, added}
+use Rattle.tally.specs.Day.{Outcome, nothing, largest, plus, plus_each, added}
 use Rattle.tally.specs.Sums.{after_all, sum_each, total, Within, Counted, EachCounted, EachKept}
 
 -- ---- a field

@@ -1,10 +1,15 @@
 -- "The tally of a race day is one record lent and brought up to date: accepted inserts, entries handed out by take, merge steps, packings, 64 bits each."
 use Rattle.std.specs.Prelude.{ℕ, ◌+◌, ◌-◌, ◌^◌, min, Bool, true, false}
-use Rattle.rules.specs.Answers.{is_done}
+use Rattle.rules.specs.Answers.{Answer, is_done}
 use Rattle.tally.specs.declared.Call.{Call}
 use Rattle.tally.specs.declared.Call.TheVariants.{Setup, Insert, Take, Look, Held, Audit}
-use Rattle.tally.specs.declared.Outcome.{Outcome}
 use Rattle.tally.specs.declared.Tally.{Tally}
+
+-- what the tally is told of a call
+pub record Outcome : Type 0 where
+  pub answer : Answer
+  pub steps : ℕ
+  pub packed : Bool
 
 abbrev pub tally_of : ℕ → ℕ → ℕ → ℕ → Tally
 tally_of inserts takes steps packings = record { inserts = inserts; takes = takes; steps = steps; packings = packings }

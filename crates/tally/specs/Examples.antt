@@ -1,6 +1,6 @@
 -- Days of the rules' own calls, and their tallies, computed.
 use Rattle.std.specs.Prelude.{◌≡◌, refl, true, ◌-◌, List, ◌∷◌, ◌++◌}
-use Rattle.rules.specs.declared.Answer.TheVariants.{Done}
+use Rattle.rules.specs.Answers.{Done}
 use Rattle.rules.specs.Calls.{zeros}
 use Rattle.rules.specs.Examples.{Order, setup_of, look_at, held_now, audit_it, inserts, takes}
 use Rattle.tally.specs.declared.Call.TheVariants.{Insert}

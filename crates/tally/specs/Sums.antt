@@ -1,9 +1,8 @@
 -- The calls of a day, one after the other, and the sums of what they add.
 use Rattle.std.specs.Prelude.{◌≡◌, ℕ, ◌+◌, ◌≤◌, List, [], ◌∷◌}
 use Rattle.tally.specs.declared.Call.{Call}
-use Rattle.tally.specs.declared.Outcome.{Outcome}
 use Rattle.tally.specs.declared.Tally.{Tally}
-use Rattle.tally.specs.Day.{tally_of, nothing, largest, added, up_to_date}
+use Rattle.tally.specs.Day.{Outcome, tally_of, nothing, largest, added, up_to_date}
 
 -- the tally after these calls
 unfoldable pub after_all : Tally → List (Call × Outcome) → Tally

@@ -2,12 +2,14 @@
 #![tactic(auto)]
 
 ghost use Rattle.std.specs.Prelude.{◌≡◌};
-ghost use Rattle.tally.specs.Day.{tally_of, nothing, plus, once, added_if_done, added, up_to_date};
+ghost use Rattle.tally.specs.Day.{nothing, plus, once, added_if_done, added, up_to_date};
+ghost use Rattle.rules.specs.Answers.{answer_in};
+ghost use Rattle.tally.specs.Told.{told_in, told_by, Coded};
 
-use rules::Answer;
+use rules::{Done, Outcome, Refusal};
 
 // Which call it was.
-#[derive(Clone, Copy)]
+#[derive(Clone, Copy, Debug, PartialEq, Eq)]
 pub enum Call {
     Setup,
     Insert,
@@ -17,16 +19,46 @@ pub enum Call {
     Audit,
 }
 
-// What the tally is told of a call.
-#[derive(Clone, Copy)]
-pub struct Outcome {
-    pub answer: Answer,
-    pub steps: u64,
-    pub packed: bool,
+// A number that no call has.
+#[derive(Clone, Copy, Debug, PartialEq, Eq)]
+pub struct NoCall(pub u8);
+
+// The number of a call is its code in a frame.
+impl TryFrom<u8> for Call {
+    type Error = NoCall;
+
+    ghost try_from_gives = { Coded };
+
+    fn try_from(number: u8) -> Result<Self, NoCall> {
+        match number {
+            0 => Ok(Call::Setup),
+            1 => Ok(Call::Insert),
+            2 => Ok(Call::Take),
+            3 => Ok(Call::Look),
+            4 => Ok(Call::Held),
+            5 => Ok(Call::Audit),
+            _ => Err(NoCall(number)),
+        }
+    }
+}
+
+// The outcome that an answer with steps and a packing tells of; a refusal's add nothing, so they go.
+#[tactic(auto, using(crate::proofs::DayLaws::told_refusal))]
+pub fn told(answer: Result<(), Refusal>, steps: u64, packed: bool) -> Outcome
+    ensures { result ≡ told_by (answer_in answer) steps packed }
+{
+    match answer {
+        Ok(()) => Ok(Done {
+            word: 0,
+            steps,
+            packed,
+        }),
+        Err(refusal) => Err(refusal),
+    }
 }
 
 // Accepted inserts, entries handed out by take, merge steps, packings.
-#[derive(Clone, Copy)]
+#[derive(Clone, Copy, Debug, Default, PartialEq, Eq)]
 pub struct Tally {
     pub inserts: u64,
     pub takes: u64,
@@ -35,84 +67,65 @@ pub struct Tally {
 }
 
 impl Tally {
-    fn of(inserts: u64, takes: u64, steps: u64, packings: u64) -> Self
-        ensures { result ≡ tally_of inserts takes steps packings }
-    {
-        Self {
-            inserts,
-            takes,
-            steps,
-            packings,
-        }
-    }
-
     // A day begins with it, and a refused call adds it.
     pub fn nothing() -> Self
         ensures { result ≡ nothing }
     {
-        Self::of(0, 0, 0, 0)
+        Self::default()
     }
-}
 
-// A field never passes its largest value.
-fn plus(field: u64, more: u64) -> u64
-    ensures { result ≡ plus field more }
-{
-    let room = u64::MAX - field;
-    if more <= room { field + more } else { u64::MAX }
-}
-
-// A packing counts once.
-fn once(packed: bool) -> u64
-    ensures { result ≡ once packed }
-{
-    if packed { 1 } else { 0 }
-}
-
-// Whatever is counted of a call that is done; a look makes merge steps too.
-fn added_if_done(call: Call, steps: u64, packed: bool) -> Tally
-    ensures { result ≡ added_if_done call steps packed }
-{
-    match call {
-        Call::Setup => Tally::nothing(),
-        Call::Insert => Tally::of(1, 0, steps, once(packed)),
-        Call::Take => Tally::of(0, 1, steps, 0),
-        Call::Look => Tally::of(0, 0, steps, 0),
-        Call::Held => Tally::of(0, 0, steps, 0),
-        Call::Audit => Tally::of(0, 0, steps, 0),
+    // Whatever is counted of a call that is done; a look makes merge steps too.
+    fn of_done(call: Call, done: Done) -> Self
+        ensures { result ≡ added_if_done call done.steps done.packed }
+    {
+        let nothing = Self::nothing();
+        let steps = done.steps;
+        match call {
+            Call::Setup => nothing,
+            Call::Insert => Self {
+                inserts: 1,
+                steps,
+                packings: u64::from(done.packed),
+                ..nothing
+            },
+            Call::Take => Self {
+                takes: 1,
+                steps,
+                ..nothing
+            },
+            Call::Look | Call::Held | Call::Audit => Self { steps, ..nothing },
+        }
     }
-}
 
-// Only answer 0 counts.
-#[tactic(auto, unfolding(crate::specs::Day::added))]
-fn added(call: Call, outcome: Outcome) -> Tally
-    ensures { result ≡ added call outcome }
-{
-    let answer = outcome.answer;
-    if rules::number_of(answer) == 0 {
-        added_if_done(call, outcome.steps, outcome.packed)
-    } else {
-        Tally::nothing()
+    // A refused call counts for nothing.
+    #[tactic(auto, unfolding(crate::specs::Day::added))]
+    fn of(call: Call, outcome: Outcome) -> Self
+        ensures { result ≡ added call (told_in outcome) }
+    {
+        match outcome {
+            Ok(done) => Self::of_done(call, done),
+            Err(_) => Self::nothing(),
+        }
     }
-}
 
-// The update by value, for whoever holds the record.
-#[tactic(auto, unfolding(crate::specs::Day::up_to_date))]
-pub fn updated(tally: Tally, call: Call, outcome: Outcome) -> Tally
-    ensures { result ≡ up_to_date tally call outcome }
-{
-    let more = added(call, outcome);
-    Tally {
-        inserts: plus(tally.inserts, more.inserts),
-        takes: plus(tally.takes, more.takes),
-        steps: plus(tally.steps, more.steps),
-        packings: plus(tally.packings, more.packings),
+    // The update by value, for whoever holds the record; a field never passes its largest value.
+    #[tactic(auto, unfolding(crate::specs::Day::up_to_date))]
+    pub fn updated(self, call: Call, outcome: Outcome) -> Self
+        ensures { result ≡ up_to_date self call (told_in outcome) }
+    {
+        let more = Self::of(call, outcome);
+        Self {
+            inserts: self.inserts.saturating_add(more.inserts),
+            takes: self.takes.saturating_add(more.takes),
+            steps: self.steps.saturating_add(more.steps),
+            packings: self.packings.saturating_add(more.packings),
+        }
     }
-}
 
-// The update of a record that is lent.
-pub fn update(tally: &mut Tally, call: Call, outcome: Outcome)
-    ensures { tally.new ≡ up_to_date tally.old call outcome }
-{
-    *tally = updated(*tally, call, outcome);
+    // The update of a record that is lent.
+    pub fn update(&mut self, call: Call, outcome: Outcome)
+        ensures { self.new ≡ up_to_date self.old call (told_in outcome) }
+    {
+        *self = self.updated(call, outcome);
+    }
 }
