@@ -2,7 +2,7 @@
 use mathlib.Core.Path.{◌≡◌, refl, sym, ap, ◌∙◌}
 use mathlib.Core.Logic.{◌≢◌, inl, inr}
 use native.Mathlib.Decide.{ℕ_discrete}
-use Prim.Native.Nat.{ℕ, zero, suc, ◌+◌, ◌≤◌, ◌<◌}
+use Prim.Native.Nat.{ℕ, zero, suc, ◌+◌, ◌-◌, ◌≤◌, ◌<◌}
 use native.Mathlib.Nat.{add-zero, add-suc, suc-add, zero-add, le_of_suc-le-suc, not-suc-le-zero}
 use native.Mathlib.Omega.{arith}
 use mathlib.Core.List.{List, [], map}
@@ -11,7 +11,7 @@ use lib.Seq.{get_or-take, get_or-drop, ext_get_or, get_or-set_same, get_or-set_o
 use Rattle.rules.specs.Links.{from, buffer_count, all_buffers, book_words}
 use Rattle.rules.proofs.Table.{in_book}
 use Rattle.buffers.specs.Slots.{capacity_of, base}
-use Rattle.buffers.specs.Format.{count_in, start_in, links_in, counter_in, word_of, count_of, start_of, many, head_of, buffer_of, buffers_of}
+use Rattle.buffers.specs.Format.{count_in, start_in, links_in, word_of, count_of, start_of, many, head_of, buffer_of, buffers_of}
 use Rattle.buffers.specs.Post.{Inside, Has, Only, Now, Unused, Kept}
 use Rattle.buffers.proofs.SlotLaws.{behind_book, not_both, in_words, no_more, few, small_capacity}
 
@@ -58,6 +58,13 @@ module _ (ws : List ℕ) (n : ℕ) (h : Has ws n) where
   unfolding buffer_of
   buffer_length = simp (length-take, length-drop) (omega (arith, h.slots, h.fits))
 
+  -- the words that have them, from a place on
+  pub entries_are : (p c : ℕ) → p ≡ head_of ws n → c ≡ length (buffer_of ws n) → take (p + c - p) (drop p ws) ≡ buffer_of ws n
+  unfolding buffer_of
+  entries_are p c at long =
+      let many : p + c - p ≡ count_of ws n = omega (arith, long, buffer_length) in
+      ap (λ m. take m (drop p ws)) many ∙ ap (λ q. take (count_of ws n) (drop q ws)) at
+
   pub entry_at : (m : ℕ) → m < count_of ws n → get_or (buffer_of ws n) m 0 ≡ get_or ws (head_of ws n + m) 0
   unfolding buffer_of
   entry_at m lt = rw (get_or-take, get_or-drop)
@@ -73,9 +80,6 @@ module _ (ws : List ℕ) (n : ℕ) (h : Has ws n) where
 module _ (ws ws' : List ℕ) (n : ℕ) (h : Has ws n) (only : Only ws ws' n) where
   pub only_links : links_in ws' ≡ links_in ws
   only_links = only.outside 0 (omega arith) (omega (arith, h.behind))
-
-  pub only_counter : (i : ℕ) → i < 8 → counter_in ws' i ≡ counter_in ws i
-  only_counter i lt = only.outside i (omega arith) (omega (arith, h.behind))
 
   pub only_word : (m : ℕ) → m < many ws → m ≢ n → word_of ws' m ≡ word_of ws m
   only_word m lt differ = only.outside (8 + m) (omega arith) (omega (arith, h.behind, few h.array.link))

@@ -3,12 +3,10 @@ use mathlib.Core.Path.{◌≡◌, sym, ap, ◌∙◌}
 use mathlib.Core.List.{List, []}
 use Prim.Native.Nat.{ℕ, ◌+◌, ◌≤◌, ◌<◌}
 use native.Mathlib.Omega.{arith}
-use lib.ListN.{length, set, length-set}
-use lib.Seq.{ext_get_or, get_or-set_same, get_or-set_other}
+use lib.Seq.{ext_get_or}
 use Rattle.rules.specs.Links.{buffer_count}
 use Rattle.buffers.specs.Format.{links_in, count_in, word_of, head_of, many, buffer_of, buffers_of}
 use Rattle.buffers.specs.Post.{Inside}
-use Rattle.buffers.specs.Fresh.{Written}
 use Rattle.buffers.specs.Counters.{HasCounter, CounterPut}
 use Rattle.buffers.proofs.SlotLaws.{some}
 use Rattle.buffers.proofs.ArrayLaws.{has, buffer_length, buffer_is, entry_at, buffers_at, buffers_length}
@@ -22,19 +20,6 @@ has_counter ws i array low high =
       high = high;
       small = omega (arith, array.link.high);
       long = let first = has ws 0 array (omega (arith, some array.link)) in omega (arith, first.behind, first.slots);
-    }
-
-pub put_there : (ws ws₁ : List ℕ) (i : ℕ) → HasCounter ws i → Written ws ws₁ 1 i 1 → i < length ws₁
-put_there ws ws₁ i h one = omega (arith, h.small, h.long, one.long)
-
-pub counter_put : (ws ws₁ : List ℕ) (i c : ℕ) → HasCounter ws i → Written ws ws₁ 1 i 1 → CounterPut ws (set ws₁ i c) i c
-counter_put ws ws₁ i c h one =
-    record {
-      long = length-set ws₁ i c ∙ one.long;
-      at = get_or-set_same ws₁ i c 0 (put_there ws ws₁ i h one);
-      before = λ m low less. get_or-set_other ws₁ i m c 0 (omega arith) ∙ one.there m low less;
-      zeroth = get_or-set_other ws₁ i 0 c 0 (omega (arith, h.low)) ∙ one.elsewhere 0 (λ low less. absurd (omega arith));
-      behind = λ p less. get_or-set_other ws₁ i p c 0 (omega arith) ∙ one.elsewhere p (λ low high. absurd (omega arith));
     }
 
 module _ {ws ws' : List ℕ} {i c : ℕ} (h : HasCounter ws i) (z : CounterPut ws ws' i c) where

@@ -3,10 +3,11 @@ use mathlib.Core.Path.{◌≡◌, refl, sym, ap, subst, ◌∙◌}
 use mathlib.Core.Bool.{Bool, true, false}
 use mathlib.Core.Logic.{◌⊎◌, inl, inr, ⊎_elim}
 use Prim.Native.Nat.{ℕ, zero, suc, ◌+◌, ◌-◌, ◌*◌, ◌≤◌, ◌<◌}
-use native.Mathlib.Nat.{zero-add}
+use native.Mathlib.Nat.{zero-add, add-zero}
 use native.Mathlib.Omega.{arith}
 use native.Mathlib.Decide.{ℕ_discrete, dec_lt}
 use mathlib.Core.List.{List}
+use Rattle.std.specs.Prelude.{Option, Some, None, is_some}
 use lib.ListN.{length}
 use lib.Dec.{T, leb, ltb, eqb, eqb→eq, ltb→lt}
 use borrow.Author.Tests.{eqb-true, eq-eqb, leb-true, le-leb, lt-leb}
@@ -16,14 +17,14 @@ use Rattle.rules.specs.Tree.{Tree, exhausted, buffer, merger, k_merger, links_fr
 use Rattle.rules.specs.Book.{Book, count, start_place, marked, c, together, is_link_number, sound}
 use Rattle.rules.proofs.Table.{and_one as T_one, and_two as T_two, k_least, in_link}
 use Rattle.buffers.specs.Slots.{capacity_of}
-use Rattle.buffers.specs.Format.{links_in, counter_in, word_of, count_of, start_of, mark_of, many, book_of}
+use Rattle.buffers.specs.Format.{count_in, links_in, counter_in, word_of, count_of, start_of, mark_of, many, book_of}
 use Rattle.buffers.specs.Rules.{Part, whole, in_one, in_two, held_under, top_marked, LinkRules, Rules}
-use Rattle.buffers.specs.Weights.{broken, weigh, counts_from, weight, room, links_weight, weighs_right, held_if_sound}
+use Rattle.buffers.specs.Weights.{broken, word_right, weigh, counts_from, weight, room, links_weight, weighs_right, held_if_sound, Behind}
 use Rattle.buffers.specs.Post.{Inside}
 use Rattle.buffers.proofs.SlotLaws.{capacity_is}
 use Rattle.buffers.proofs.ArrayLaws.{each_at}
-use Rattle.buffers.proofs.SoundLaws.{weigh_right, weigh_kept, Kept}
-use Rattle.buffers.proofs.LinkWeights.{counts_none, none_counts, room_none, room_many, room_held, room_right, link_broken, link_right, most_small, used_few}
+use Rattle.buffers.proofs.SoundLaws.{weigh_true, weigh_false, weigh_above, weigh_right, weigh_kept, Kept}
+use Rattle.buffers.proofs.LinkWeights.{counts_none, none_counts, room_none, room_many, room_held, room_right, link_broken, link_right, most_small, used_few, behind_all}
 use Rattle.buffers.proofs.RuleLaws.{both, link_number_lem, is_link_number_lem, sound_rules, rules_sound}
 use Rattle.buffers.proofs.RuleLaws as rule
 use Rattle.buffers.proofs.TreeLaws.{merger_held, all_held, numbered, occurs, tree_numbered, merger_numbered, tree_occurs, number_1, link_within, first_least, capacity_I, each_buffer}
@@ -407,6 +408,59 @@ module _ (ws : List ℕ) where
         (le-leb inserted 7 (omega (arith, I_weighs, r.at_most_seven, count_is ws 0 some_of)))
         (le-leb (inserted + links_weight ws 1 (links_in ws)) (most (links_in ws)) (omega (arith, I_weighs, links_weigh, all_held b number_of_lem, not_over_lem, count_is ws 0 some_of))))
 
+-- ---- exactly
+
+same_truth : (t u : Bool) → (t ≡ true → u ≡ true) → (u ≡ true → t ≡ true) → t ≡ u
+same_truth true u f g = sym (f refl)
+same_truth false true f g = g refl
+same_truth false false f g = refl
+
+pub exact : (ws : List ℕ) → weighs_right ws ≡ sound (book_of ws)
+exact ws =
+    same_truth (weighs_right ws) (sound (book_of ws)) (λ h. rules_sound (book_of ws) (weights_rules ws h)) (λ h. rules_weights ws (sound_rules (book_of ws) h))
+
+-- a sound book in an array that is long enough for its links
+pub sound_inside : (ws : List ℕ) → sound (book_of ws) ≡ true → words (links_in ws) ≤ length ws → Inside ws
+sound_inside ws h long =
+    let r = sound_rules (book_of ws) h in
+    record { link = number_of_lem ws r; long = long; fits = rules_fit ws r }
+
+-- ---- what the test hands back
+
+module _ (ws : List ℕ) where
+  abbrev all : ℕ
+  all = together (book_of ws) 0 (buffer_count (book_of ws).links)
+
+  pub handed : (t : Bool) → sound (book_of ws) ≡ t → held_if_sound (book_of ws) ≡ elim t [ true ↦ Some all | false ↦ None ]
+  unfolding held_if_sound
+  handed t e = ap (λ t. elim t [ true ↦ Some all | false ↦ None ]) e
+
+  pub none_wrong : None ≡ held_if_sound (book_of ws) → sound (book_of ws) ≡ false
+  none_wrong e = go (sound (book_of ws)) refl
+    where
+      go : (t : Bool) → sound (book_of ws) ≡ t → t ≡ false
+      go true s = absurd (let z = handed true s in cc)
+      go false s = refl
+
+  -- a number n that it hands back
+  module _ (n : ℕ) (n_is : Some n ≡ held_if_sound (book_of ws)) where
+    pub held_right : sound (book_of ws) ≡ true
+    held_right = go (sound (book_of ws)) refl
+      where
+        go : (t : Bool) → sound (book_of ws) ≡ t → t ≡ true
+        go true s = refl
+        go false s = absurd (let z = handed false s in cc)
+
+    pub held_all_lem : n ≡ together (book_of ws) 0 (many ws)
+    held_all_lem =
+        let z = handed true held_right in
+        let e : n ≡ all = cc in
+        e ∙ ap (λ l. together (book_of ws) 0 (buffer_count l)) (links_is ws)
+
+  pub some_exactly : (o : Option ℕ) → o ≡ held_if_sound (book_of ws) → is_some o ≡ sound (book_of ws)
+  some_exactly None e = sym (none_wrong e)
+  some_exactly (Some n) e = sym (held_right n e)
+
 -- ---- the test's steps
 
 module _ (ws : List ℕ) where
@@ -436,66 +490,48 @@ module _ (ws : List ℕ) where
         numbered_links ∙ ap (λ t. t and leb (inserted + links_weight ws 1 (links_in ws)) (most (links_in ws))) (le-leb inserted 7 h)
         ∙ ap (λ n. leb (inserted + n) (most (links_in ws))) (sym eh) ∙ ap (leb (inserted + held)) (sym e_h)
 
--- ---- exactly
-
-same_truth : (t u : Bool) → (t ≡ true → u ≡ true) → (u ≡ true → t ≡ true) → t ≡ u
-same_truth true u f g = sym (f refl)
-same_truth false true f g = g refl
-same_truth false false f g = refl
-
-pub exact : (ws : List ℕ) → weighs_right ws ≡ sound (book_of ws)
-exact ws =
-    same_truth (weighs_right ws) (sound (book_of ws)) (λ h. rules_sound (book_of ws) (weights_rules ws h)) (λ h. rules_weights ws (sound_rules (book_of ws) h))
-
--- a sound book in an array that is long enough for its links
-pub sound_inside : (ws : List ℕ) → sound (book_of ws) ≡ true → words (links_in ws) ≤ length ws → Inside ws
-sound_inside ws h long =
-    let r = sound_rules (book_of ws) h in
-    record { link = number_of_lem ws r; long = long; fits = rules_fit ws r }
-
--- ---- what the test hands back
+-- ---- and what it hands back at each
 
 module _ (ws : List ℕ) where
-  abbrev all : ℕ
-  all = together (book_of ws) 0 (buffer_count (book_of ws).links)
+  broken_weighs : weighs_right ws ≡ false → None ≡ held_if_sound (book_of ws)
+  broken_weighs wrong = sym (handed ws false (sym (exact ws) ∙ wrong))
 
-  handed : (t : Bool) → sound (book_of ws) ≡ t → held_if_sound (book_of ws) ≡ elim t [ true ↦ all | false ↦ broken ]
-  unfolding held_if_sound
-  handed t e = ap (λ t. elim t [ true ↦ all | false ↦ broken ]) e
+  pub no_such_link : (links_in ws < 1) ⊎ ((1 ≤ links_in ws) × (most_links < links_in ws)) → None ≡ held_if_sound (book_of ws)
+  no_such_link (inl none) = broken_weighs (no_links ws none)
+  no_such_link (inr many) = broken_weighs (many_links ws many.0 many.1)
 
-  pub broken_weighs : weighs_right ws ≡ false → broken ≡ held_if_sound (book_of ws)
-  broken_weighs wrong = sym (handed false (sym (exact ws) ∙ wrong))
+  -- I's word w, which has so many entries
+  module _ (number : LinkNumber (links_in ws)) (w inserted : ℕ) (w_is : w ≡ word_of ws 0) (inserted_is : inserted ≡ count_in w) where
+    heavy : 7 < weigh w 8 0 → None ≡ held_if_sound (book_of ws)
+    heavy h = broken_weighs (eight_inserted ws number (weigh w 8 0) (ap (λ v. weigh v 8 0) w_is) h)
 
-  pub held_weighs : weighs_right ws ≡ true → (inserted held : ℕ) → inserted ≡ weigh (word_of ws 0) 8 0 → held ≡ links_weight ws 1 (links_in ws) → inserted + held ≡ held_if_sound (book_of ws)
-  held_weighs right inserted held i h =
-      let is : all ≡ weigh (word_of ws 0) 8 0 + links_weight ws 1 (links_in ws) = subst (λ l. together (book_of ws) 0 (buffer_count l) ≡ weigh (word_of ws 0) 8 0 + links_weight ws 1 (links_in ws)) (sym (links_is ws)) (weights_held ws right) in
-      omega (arith, i, h, is, handed true (sym (exact ws) ∙ right))
+    pub insertion_full : 7 < inserted → None ≡ held_if_sound (book_of ws)
+    insertion_full h = heavy (weigh_above w 8 0 7 (omega arith) (omega (arith, inserted_is)))
 
-  all_small : sound (book_of ws) ≡ true → all < broken
-  all_small right = let r = sound_rules (book_of ws) right in omega (arith, r.at_most_h, most_small r.link_number)
+    pub insertion_wrong : (r : Bool) → r ≡ word_right w 8 inserted → r ≡ false → None ≡ held_if_sound (book_of ws)
+    insertion_wrong r e bad = heavy (omega (arith, weigh_false w 8 0 (ap (word_right w 8) (add-zero (count_in w) ∙ sym inserted_is) ∙ sym e ∙ bad)))
 
-  -- n is what it hands back
-  module _ (n : ℕ) (n_is : n ≡ held_if_sound (book_of ws)) where
-    pub held_all_lem : sound (book_of ws) ≡ true → n ≡ together (book_of ws) 0 (many ws)
-    held_all_lem right = n_is ∙ handed true right ∙ ap (λ l. together (book_of ws) 0 (buffer_count l)) (links_is ws)
+    module _ (right : word_right w 8 inserted ≡ true) (seven : inserted ≤ 7) where
+      is_weight : inserted ≡ weigh (word_of ws 0) 8 0
+      is_weight =
+          inserted_is ∙ sym (add-zero (count_in w)) ∙ sym (weigh_true w 8 0 (ap (word_right w 8) (add-zero (count_in w) ∙ sym inserted_is) ∙ right)) ∙ ap (λ v. weigh v 8 0) w_is
 
-    pub below_broken : n < broken → sound (book_of ws) ≡ true
-    below_broken less = go (sound (book_of ws)) refl
-      where
-        go : (t : Bool) → sound (book_of ws) ≡ t → t ≡ true
-        go true e = refl
-        go false e = absurd (omega (arith, n_is, handed false e))
+      pub links_broken : broken ≤ links_weight ws 1 (links_in ws) → None ≡ held_if_sound (book_of ws)
+      links_broken h =
+          broken_weighs
+          (all_weighed ws number inserted is_weight seven (links_weight ws 1 (links_in ws)) (most (links_in ws)) refl refl
+          ∙ lt-leb (inserted + links_weight ws 1 (links_in ws)) (most (links_in ws)) (omega (arith, most_small number)))
 
-    pub not_below : broken ≤ n → sound (book_of ws) ≡ false
-    not_below more = go (sound (book_of ws)) refl
-      where
-        go : (t : Bool) → sound (book_of ws) ≡ t → t ≡ false
-        go true e = absurd (omega (arith, n_is, handed true e, all_small e))
-        go false e = refl
+      module _ (held H : ℕ) (behind : Behind ws (links_in ws) 1 held) (H_is : H ≡ most (links_in ws)) where
+        beside_most : weighs_right ws ≡ leb (inserted + held) H
+        beside_most = all_weighed ws number inserted is_weight seven held H (behind_all ws (links_in ws) held behind) H_is
 
-    pub below_exactly : ltb n broken ≡ sound (book_of ws)
-    below_exactly = go (dec_lt n broken)
-      where
-        go : Dec (n < broken) → ltb n broken ≡ sound (book_of ws)
-        go (yes less) = le-leb (suc n) broken (omega arith) ∙ sym (below_broken less)
-        go (no more) = lt-leb (suc n) broken (omega arith) ∙ sym (not_below (omega arith))
+        pub too_many : H < inserted + held → None ≡ held_if_sound (book_of ws)
+        too_many h = broken_weighs (beside_most ∙ lt-leb (inserted + held) H h)
+
+        pub all_held_here : inserted + held ≤ H → Some (inserted + held) ≡ held_if_sound (book_of ws)
+        all_held_here h =
+            let right : weighs_right ws ≡ true = beside_most ∙ le-leb (inserted + held) H h in
+            let is_all : all ws ≡ weigh (word_of ws 0) 8 0 + links_weight ws 1 (links_in ws) = subst (λ l. together (book_of ws) 0 (buffer_count l) ≡ weigh (word_of ws 0) 8 0 + links_weight ws 1 (links_in ws)) (sym (links_is ws)) (weights_held ws right) in
+            let e : inserted + held ≡ all ws = omega (arith, is_all, is_weight, behind_all ws (links_in ws) held behind) in
+            ap (λ n. Some n) e ∙ sym (handed ws true (sym (exact ws) ∙ right))

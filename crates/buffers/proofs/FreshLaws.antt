@@ -1,45 +1,14 @@
 -- What setup writes: a stretch of equal words, and the fresh book.
-use Prim.Native.Nat.{ℕ, ◌+◌, ◌≤◌, ◌<◌}
-use mathlib.Core.Path.{◌≡◌, refl, ap, ◌∙◌}
+use Prim.Native.Nat.{ℕ, ◌+◌, ◌≤◌}
+use mathlib.Core.Path.{◌≡◌, ap, ◌∙◌}
 use mathlib.Core.List.{List}
 use native.Mathlib.Omega.{arith}
-use native.Mathlib.Decide.{ℕ_discrete}
 use native.Mathlib.Numerals.{add-one}
-use lib.ListN.{length, get_or, set, length-set}
+use lib.ListN.{length, set, length-set}
 use lib.Seq.{get_or-set_same, get_or-set_other}
 use Rattle.rules.specs.Links.{first, buffer_count, book_words}
 use Rattle.buffers.proofs.SlotLaws.{words_end, behind_book, few}
 use Rattle.buffers.specs.Fresh.{Written, CanBegin, Begun}
-
--- so far up to n
-pub record Writing (ws ws' : List ℕ) (at end w n : ℕ) : Type 0 where
-  pub so_far : Written ws ws' at n w
-  pub low : at ≤ n
-  pub high : n ≤ end
-
-pub write_start : (ws : List ℕ) (at end w : ℕ) → at ≤ end → Writing ws ws at end w at
-write_start ws at end w h = record { so_far = record { long = refl; there = λ p low high. absurd (omega arith); elsewhere = λ p out. refl }; low = omega arith; high = h }
-
-pub write_more : (ws ws' : List ℕ) (at end w n : ℕ) → n < end → end ≤ length ws → Writing ws ws' at end w n → Writing ws (set ws' n w) at end w (n + 1)
-write_more ws ws' at end w n lt enough h =
-    let long = h.so_far.long in
-    let here : get_or (set ws' n w) n 0 ≡ w = get_or-set_same ws' n w 0 (omega arith) in
-    record {
-      so_far = record {
-        long = length-set ws' n w ∙ long;
-        there = λ p low high. there p low high (ℕ_discrete p n);
-        elsewhere = λ p out. get_or-set_other ws' n p w 0 (λ e. out (omega (arith, e, h.low)) (omega (arith, e))) ∙ h.so_far.elsewhere p (λ low high. out low (omega arith));
-      };
-      low = omega (arith, h.low);
-      high = omega arith;
-    }
-  where
-    there : (p : ℕ) → at ≤ p → p < n + 1 → Dec (p ≡ n) → get_or (set ws' n w) p 0 ≡ w
-    there p low high (yes e) = let long = h.so_far.long in rw e (get_or-set_same ws' n w 0 (omega arith))
-    there p low high (no differ) = get_or-set_other ws' n p w 0 differ ∙ h.so_far.there p low (omega arith)
-
-pub write_all : (ws ws' : List ℕ) (at end w n : ℕ) → end ≤ n → Writing ws ws' at end w n → Written ws ws' at end w
-write_all ws ws' at end w n h z = let e : n ≡ end = omega (arith, z.high) in rw e at z.so_far
 
 -- ---- the fresh book
 

@@ -8,23 +8,24 @@ use native.Mathlib.Numerals.{add-one}
 use native.Mathlib.Omega.{arith}
 use native.Mathlib.Decide.{ℕ_discrete, dec_lt}
 use mathlib.Core.List.{List, [], ◌∷◌}
+use Rattle.std.specs.Prelude.{Option, Some, None}
+use Rattle.std.specs.Bool.{then_some}
 use lib.ListN.{length, get_or, drop, length-drop, drop_of_length-le}
 use lib.Seq.{drop-cons}
 use lib.Dec.{leb, eqb, eqb→eq, lit≤}
 use borrow.Author.Tests.{eq-eqb, ne_eqb, le-leb, lt-leb, lt-ltb, le-ltb}
 use Rattle.rules.specs.Tests.{◌and◌, every}
-use Rattle.rules.specs.Links.{s, k, height, levels, first, capacity, most, most_links, widest, book_words, LinkNumber, InLink}
+use Rattle.rules.specs.Links.{s, k, height, levels, first, capacity, most, most_links, widest, book_words, LinkNumber}
 use Rattle.rules.specs.Tree.{perfect, k_merger}
-use Rattle.rules.proofs.Table.{every_at, each_link_lem, at_most, k_least, most_few, k_most, s_most, first_most, in_book, in_link}
-use Rattle.buffers.specs.Format.{counter_in, word_of, count_of}
-use Rattle.buffers.specs.Weights.{broken, weigh, counts_from, weight, room, link_weight, links_weight, nothing, inputs, Wrong, Over, Stretch, Stretched, Level, Levelled, OfLink, Stored, RoomLeft, Merging, Weighed, AllLinks, AllWeighed}
-use Rattle.buffers.proofs.SoundLaws.{weigh_most, weigh_least}
+use Rattle.rules.proofs.Table.{every_at, each_link_lem, at_most, k_least, most_few, k_most, s_most, first_most, in_book}
+use Rattle.buffers.specs.Format.{count_in, counter_in, word_of, count_of}
+use Rattle.buffers.specs.Weights.{broken, word_right, weigh, counts_from, weight, room, link_weight, links_weight, nothing, inputs, Wrong, Over, Stretched, Level, Levelled, OfLink, Stored, RoomIs, RoomLeft, Merging, Weighs, link_heavy, Behind, FromLink, Linking}
+use Rattle.buffers.proofs.SoundLaws.{weighs, weigh_most, weigh_least}
 
-pub of_link : (ws below : List ℕ) (i : ℕ) → book_words ≤ length ws → LinkNumber i → length below ≡ widest → OfLink ws below i
-of_link ws below i long number sized = record {
+pub of_link : (ws : List ℕ) (i : ℕ) → book_words ≤ length ws → LinkNumber i → OfLink ws i
+of_link ws i long number = record {
   long = long;
   number = number;
-  sized = sized;
   some = k_least number;
   few = k_most number;
   part = s_most number;
@@ -129,10 +130,6 @@ k_is i = refl
 
 -- ---- what a merger weighs
 
--- no link weighs more: of at most eight levels, each buffer as much as a broken one
-abbrev link_heavy : ℕ
-link_heavy = broken * 2 ^ 9
-
 module _ (ws : List ℕ) (a size : ℕ) where
   weight_most : (cs : List ℕ) (j : ℕ) → weight ws (perfect a size cs j) + broken ≤ broken * 2 ^ suc (length cs)
   unfolding weight perfect
@@ -176,46 +173,31 @@ same_weigh ws m a a' size size' x x' y y' ea es ex ey = cc
 
 -- ---- the S: those in use and those behind them
 
-module _ (ws below : List ℕ) (i : ℕ) (of : OfLink ws below i) where
-  no_room : (below' : List ℕ) → length below' ≡ widest → room ws i ≤ weight ws (k_merger i) → RoomLeft ws below' i 0
-  no_room below' sized none = record { is = λ z. absurd (omega arith); right = λ z. absurd (omega arith); none = λ e. none; sized = sized }
+module _ (ws : List ℕ) (i : ℕ) where
+  pub no_counter : counter_in ws i < 1 → room ws i ≤ weight ws (k_merger i)
+  no_counter h = omega (arith, room_none ws i h)
 
-  pub no_counter : counter_in ws i < 1 → RoomLeft ws below i 0
-  no_counter h = no_room below of.sized (omega (arith, room_none ws i h))
-
-  pub far_counter : (k' : ℕ) → k' ≡ k i → 1 ≤ counter_in ws i → k' + 1 < counter_in ws i → RoomLeft ws below i 0
-  far_counter k' ek one h = no_room below of.sized (omega (arith, room_many ws i one (omega arith)))
+  pub far_counter : (k' : ℕ) → k' ≡ k i → 1 ≤ counter_in ws i → k' + 1 < counter_in ws i → room ws i ≤ weight ws (k_merger i)
+  far_counter k' ek one h = omega (arith, room_many ws i one (omega arith))
 
 -- what is known of link i once its counter is right
-pub record Counted (ws below : List ℕ) (i k' f' s' : ℕ) : Type 0 where
-  pub of : OfLink ws below i
+pub record Counted (ws : List ℕ) (i k' f' s' : ℕ) : Type 0 where
+  pub of : OfLink ws i
   pub k_is : k' ≡ k i
   pub first_is : f' ≡ first i
   pub s_is : s' ≡ s i
   pub one : 1 ≤ counter_in ws i
   pub few : counter_in ws i ≤ k' + 1
 
-module _ (ws below : List ℕ) (i k' f' s' : ℕ) (q : Counted ws below i k' f' s') where
+pub counted : {ws : List ℕ} {i n k' f' s' : ℕ} → OfLink ws i → n ≡ i → k' ≡ k n → f' ≡ first n → s' ≡ s n → 1 ≤ counter_in ws i → counter_in ws i ≤ k' + 1 → Counted ws i k' f' s'
+counted of n_is k_is f_is s_is one few = record { of = of; k_is = k_is ∙ ap k n_is; first_is = f_is ∙ ap first n_is; s_is = s_is ∙ ap s n_is; one = one; few = few }
+
+module _ (ws below : List ℕ) (i k' f' s' : ℕ) (q : Counted ws i k' f' s') where
   abbrev end : ℕ
   end = k' + (counter_in ws i - 1)
 
   few' : counter_in ws i ≤ k i + 1
   few' = omega (arith, q.few, q.k_is)
-
-  pub ask_used : Stretch ws below f' k' end
-  ask_used = record { long = q.of.long; up = omega arith; few = omega (arith, q.of.few, q.few, q.k_is); fits = omega (arith, q.of.fits, q.few, q.k_is, q.first_is); sized = q.of.sized }
-
-  pub ask_unused : (below' : List ℕ) → length below' ≡ widest → Stretch ws below' f' end (2 * k')
-  ask_unused below' sized = record {
-    long = q.of.long;
-    up = omega (arith, q.few);
-    few = omega (arith, q.of.few, q.k_is);
-    fits = omega (arith, q.of.fits, q.k_is, q.first_is);
-    sized = sized;
-  }
-
-  pub room_fits : (counter_in ws i - 1) * s' < broken
-  room_fits = rw q.s_is (used_few q.of.number (counter_in ws i - 1) (omega (arith, q.few, q.k_is)))
 
   -- an S that breaks a rule
   wrong_S : (low high : ℕ) → k' ≤ low → high ≤ 2 * k' → Wrong ws f' low high s' nothing → room ws i ≤ weight ws (k_merger i)
@@ -233,9 +215,9 @@ module _ (ws below : List ℕ) (i k' f' s' : ℕ) (q : Counted ws below i k' f' 
       all = ap (λ l. weight ws (perfect (first i) (s i) l w.at)) none ∙ ap (λ n. weigh (word_of ws (n + w.at)) (s i) 0) (sym q.first_is) ∙ ap (λ n. weigh (word_of ws (f' + w.at)) n 0) (sym q.s_is)
 
   module _ (below₁ : List ℕ) (r₁ : Bool) (used : Stretched ws below below₁ f' k' end s' 65535 r₁) where
-    pub used_wrong : r₁ ≡ false → RoomLeft ws below₁ i 0
+    pub used_wrong : r₁ ≡ false → room ws i ≤ weight ws (k_merger i)
     used_wrong bad =
-        no_room ws below i q.of below₁ used.sized (⊎_elim (wrong_S k' end (omega arith) (omega (arith, q.few))) (λ o. absurd (let z = o.is in omega arith)) (used.wrong bad))
+        ⊎_elim (wrong_S k' end (omega arith) (omega (arith, q.few))) (λ o. absurd (let z = o.is in omega arith)) (used.wrong bad)
 
     module _ (good : r₁ ≡ true) (below₂ : List ℕ) (many : ℕ) (r₂ : Bool) (unused : Stretched ws below₁ below₂ f' end (2 * k') s' many r₂) where
       spare_is : counts_from ws (f' + end) (2 * k' - end) ≡ spare ws i
@@ -249,8 +231,8 @@ module _ (ws below : List ℕ) (i k' f' s' : ℕ) (q : Counted ws below i k' f' 
                 (λ z. let e = counts_none ws (f' + end) (2 * k' - end) (spare_is ∙ z) (f' + o.at) (omega (arith, o.from)) (omega (arith, o.to, o.from)) in omega (arith, o.is)),
           )
 
-      pub unused_wrong : r₂ ≡ false → RoomLeft ws below₂ i 0
-      unused_wrong bad = no_room ws below i q.of below₂ unused.sized (⊎_elim (wrong_S end (2 * k') (omega arith) (omega arith)) held_S (unused.wrong bad))
+      pub unused_wrong : r₂ ≡ false → room ws i ≤ weight ws (k_merger i)
+      unused_wrong bad = ⊎_elim (wrong_S end (2 * k') (omega arith) (omega arith)) held_S (unused.wrong bad)
 
       module _ (good₂ : r₂ ≡ true) (none : many ≡ 0) where
         stored : Stored ws below₂ i
@@ -268,13 +250,8 @@ module _ (ws below : List ℕ) (i k' f' s' : ℕ) (q : Counted ws below i k' f' 
             at : (n m : ℕ) → f' + m ≡ n → count_of ws (f' + m) ≤ 0 → count_of ws n ≡ 0
             at n m e h = let z : count_of ws n ≤ 0 = rw e at h in omega arith
 
-        pub all_stored : RoomLeft ws below₂ i ((counter_in ws i - 1) * s' + 1)
-        all_stored = record {
-          is = λ z. ap (λ n. (counter_in ws i - 1) * n + 1) q.s_is ∙ sym (room_right ws i q.one few' none_spare);
-          right = λ z. stored;
-          none = λ e. absurd (omega arith);
-          sized = unused.sized;
-        }
+        pub all_stored : RoomLeft ws below₂ i (Some ((counter_in ws i - 1) * s'))
+        all_stored = record { is = ap (λ n. (counter_in ws i - 1) * n + 1) q.s_is ∙ sym (room_right ws i q.one few' none_spare); right = stored }
 
 -- ---- the levels upwards: those from `low` on are weighed
 
@@ -293,16 +270,16 @@ pub record Merged (ws below : List ℕ) (i n a low : ℕ) : Type 0 where
   pub deep : depth ≤ height i
   pub weighed : (m : ℕ) → low ≤ m → m < 2 * low → get_or below m 0 ≡ weight ws (perfect (first i) (s i) (drop depth (levels i)) m)
 
-pub merge_starts : (ws below : List ℕ) (i n a k' : ℕ) → OfLink ws below i → Stored ws below i → n ≡ i → a ≡ first n → k' ≡ k n → Merged ws below i n a k'
+pub merge_starts : (ws below : List ℕ) (i n a k' : ℕ) → OfLink ws i → length below ≡ widest → Stored ws below i → n ≡ i → a ≡ first n → k' ≡ k n → Merged ws below i n a k'
 unfolding weight perfect
-merge_starts ws below i n a k' of stored en ea ek = record {
+merge_starts ws below i n a k' of sized stored en ea ek = record {
   number = of.number;
   same = en;
   placed = ea ∙ ap first en;
   long = of.long;
   fits = of.fits;
   few = of.few;
-  sized = of.sized;
+  sized = sized;
   within = omega (arith, ek, ap k en);
   some = omega (arith, ek, ap k en, of.some);
   depth = height i;
@@ -341,15 +318,11 @@ module _ (ws below : List ℕ) (i n a low : ℕ) (inv : Merged ws below i n a lo
             let z : low ≡ 2 ^ d + 2 ^ d = inv.is ∙ ap (λ d. 2 ^ d) e ∙ two-pow-succ d in
             record { depth = d; next = e; is = omega arith; even = omega arith }
 
-    pub ask_capacity : InLink n half
-    ask_capacity = rw inv.same (in_link inv.number (omega (arith, inv.within)))
-
     pub ask_level : Level ws below a half
     ask_level = record {
       long = inv.long;
       few = omega (arith, inv.within, inv.few);
       fits = omega (arith, inv.within, inv.fits, inv.placed);
-      sized = inv.sized;
       small = λ m h g. let e = above.even in omega (arith, merge_lower m (omega arith) (omega arith));
     }
 
@@ -372,15 +345,15 @@ module _ (ws below : List ℕ) (i n a low : ℕ) (inv : Merged ws below i n a lo
           let two = under (2 * m + 1) (omega arith) (omega arith) ∙ ap (λ j. weight ws (perfect (first i) (s i) (drop (suc above.depth) (levels i)) j)) (add-one (2 * m)) in
           rw cons (same_weigh ws m _ _ _ _ _ _ _ _ inv.placed size_is one two)
 
-      pub merge_again : (below' : List ℕ) (r : Bool) → Levelled ws below below' a half size r → r ≡ true → Merged ws below' i n a half
-      merge_again below' r done good = record {
+      pub merge_again : (below' : List ℕ) → length below' ≡ widest → (r : Bool) → Levelled ws below below' a half size r → r ≡ true → Merged ws below' i n a half
+      merge_again below' wide r done good = record {
         number = inv.number;
         same = inv.same;
         placed = inv.placed;
         long = inv.long;
         fits = inv.fits;
         few = inv.few;
-        sized = done.sized;
+        sized = wide;
         within = omega (arith, inv.within);
         some = omega arith;
         depth = above.depth;
@@ -427,9 +400,9 @@ module _ (ws : List ℕ) (i behind : ℕ) where
   unfolding link_weight
   link_right h = ap link_for (lt-ltb lower (room ws i) h)
 
-  pub link_weighed : (a size x : ℕ) → a ≡ first i → size ≡ capacity i 0 → x ≡ lower → x < room ws i → weigh (word_of ws a) size (x + behind) ≡ link_weight ws i behind
-  link_weighed a size x ea es ex lt =
-      let e : weigh (word_of ws a) size (x + behind) ≡ weigh (word_of ws (first i)) (capacity i 0) (lower + behind) = cc in
+  pub link_weighed : (w size x : ℕ) → w ≡ word_of ws (first i) → size ≡ capacity i 0 → x ≡ lower → x < room ws i → weigh w size (x + behind) ≡ link_weight ws i behind
+  link_weighed w size x ew es ex lt =
+      let e : weigh w size (x + behind) ≡ weigh (word_of ws (first i)) (capacity i 0) (lower + behind) = cc in
       e ∙ sym (link_right (omega arith))
 
   pub link_most : LinkNumber i → link_weight ws i behind ≤ link_heavy + behind
@@ -446,40 +419,84 @@ module _ (ws : List ℕ) (i behind : ℕ) where
       go (yes lt) = omega (arith, link_right lt, weigh_most (word_of ws (first i)) (capacity i 0) (lower + behind), small)
       go (no ge) = omega (arith, link_broken (omega arith))
 
--- ---- the links from the last one on: those from link i on are weighed
+-- with so much room, once all below A(i) are weighed
+module _ {ws below : List ℕ} {i n a low : ℕ} (inv : Merged ws below i n a low) (ended : low ≤ 1) (behind r : ℕ) (room_is : r + 1 ≡ room ws i) where
+  at_top : get_or below 1 0 ≡ weight ws (k_merger i)
+  at_top = merge_ends ws below i n a low inv ended
 
-pub record Behind (ws below : List ℕ) (links i held : ℕ) : Type 0 where
-  pub is : held ≡ links_weight ws i (suc links - i)
-  pub small : held ≤ link_heavy * (suc links - i)
-  pub sized : length below ≡ widest
+  pub no_space : r < get_or below 1 0 → broken ≤ link_weight ws i behind
+  no_space h = omega (arith, link_broken ws i behind (omega (arith, at_top)))
 
-pub behind_starts : (ws below : List ℕ) (links : ℕ) → AllLinks ws below links → Behind ws below links (suc most_links) 0
+  pub from_A : get_or below 1 0 ≤ r → {w size c : ℕ} → w ≡ word_of ws a → size ≡ capacity n 0 → c ≡ count_in w → (t : Bool) → t ≡ word_right w size (c + (get_or below 1 0 + behind))
+      → Weighs (then_some t (c + (get_or below 1 0 + behind))) (link_weight ws i behind)
+  from_A fits {w} {size} {c} w_is size_is c_is t e =
+      let is = link_weighed ws i behind w size (get_or below 1 0) (w_is ∙ ap (word_of ws) inv.placed) (size_is ∙ ap (λ m. capacity m 0) inv.same) at_top (omega arith) in
+      subst (Weighs (then_some t (c + (get_or below 1 0 + behind)))) is (weighs w size (get_or below 1 0 + behind) t (c + (get_or below 1 0 + behind)) e (ap (λ m. m + (get_or below 1 0 + behind)) c_is))
+
+-- what is broken behind a link is broken from it on
+
+link_least : (ws : List ℕ) (i behind : ℕ) → broken ≤ behind → broken ≤ link_weight ws i behind
+link_least ws i behind h = go (dec_lt (weight ws (k_merger i)) (room ws i))
+  where
+    go : Dec (weight ws (k_merger i) < room ws i) → broken ≤ link_weight ws i behind
+    go (yes lt) = rw (link_right ws i behind lt) (weigh_least (word_of ws (first i)) (capacity i 0) (weight ws (k_merger i) + behind) (omega arith))
+    go (no ge) = omega (arith, link_broken ws i behind (omega arith))
+
+links_least : (ws : List ℕ) (d i n : ℕ) → broken ≤ links_weight ws (d + i) n → broken ≤ links_weight ws i (d + n)
 unfolding links_weight
-behind_starts ws below links p =
-    let none : suc links - suc most_links ≡ 0 = omega (arith, p.number.high) in
-    record { is = rw none; small = omega arith; sized = p.sized }
+links_least ws zero i n h = let e : 0 + i ≡ i = omega arith in let f : 0 + n ≡ n = omega arith in rw f (rw e at h)
+links_least ws (suc d) i n h =
+    let e : suc d + i ≡ d + suc i = omega arith in
+    let f : suc d + n ≡ suc (d + n) = omega arith in
+    rw f (link_least ws i (links_weight ws (suc i) (d + n)) (links_least ws d (suc i) n (rw e at h)))
 
-module _ (ws below : List ℕ) (links i held : ℕ) (behind : Behind ws below links (suc i) held) where
-  pub behind_skips : links < i → (below' : List ℕ) (held' : ℕ) → below' ≡ below → held' ≡ held → Behind ws below' links i held'
+-- ---- the links from the last one on
+
+pub behind_starts : (ws : List ℕ) (links : ℕ) → LinkNumber links → Behind ws links (suc most_links) 0
+unfolding links_weight
+behind_starts ws links number =
+    let none : suc links - suc most_links ≡ 0 = omega (arith, number.high) in
+    record { is = rw none; small = omega arith }
+
+pub behind_all : (ws : List ℕ) (links held : ℕ) → Behind ws links 1 held → held ≡ links_weight ws 1 links
+behind_all ws links held behind = let all : suc links - 1 ≡ links = omega arith in rw all at behind.is
+
+module _ (ws : List ℕ) (links i held : ℕ) (p : Linking ws links i held) where
+  pub skipped : links < i → FromLink ws links i (Some held)
   unfolding links_weight
-  behind_skips lt below' held' eb eh =
+  skipped lt =
       let none : suc links - i ≡ 0 = omega arith in
       let none' : suc links - suc i ≡ 0 = omega arith in
-      let was : held ≡ links_weight ws (suc i) 0 = rw none' at behind.is in
-      record { is = rw none (eh ∙ was); small = omega (arith, behind.small, eh); sized = rw eb behind.sized }
+      let was : held ≡ links_weight ws (suc i) 0 = rw none' at p.behind.is in
+      record { is = rw none was; small = omega (arith, p.behind.small) }
 
-  module _ (number : LinkNumber i) (all : links ≤ most_links) (below₁ : List ℕ) (r₁ : ℕ) (left : RoomLeft ws below₁ i r₁) where
-    pub ask_mergers : book_words ≤ length ws → Merging ws below₁ i held r₁
-    ask_mergers long = record { of = of_link ws below₁ i long number left.sized; small = omega (arith, behind.small); left = left }
+  pub ask_stores : OfLink ws i
+  ask_stores = of_link ws i p.all.long p.number
 
-    pub behind_more : i ≤ links → (below₂ : List ℕ) (r₂ : ℕ) → Weighed ws below₂ i held r₂ → (below' : List ℕ) (held' : ℕ) → below' ≡ below₂ → held' ≡ r₂ → Behind ws below' links i held'
+  module _ (le : i ≤ links) where
+    one_more : suc links - i ≡ suc (suc links - suc i)
+    one_more = omega arith
+
+    broken_here : broken ≤ link_weight ws i held → broken ≤ links_weight ws 1 links
     unfolding links_weight
-    behind_more le below₂ r₂ done below' held' eb eh =
-        let one : suc links - i ≡ suc (suc links - suc i) = omega arith in
-        let now : held' ≡ link_weight ws i (links_weight ws (suc i) (suc links - suc i)) = eh ∙ done.is ∙ ap (link_weight ws i) behind.is in
-        record { is = rw one now; small = omega (arith, behind.small, eh, done.is, link_most ws i held number); sized = rw eb done.sized }
+    broken_here h =
+        let here : broken ≤ links_weight ws i (suc (suc links - suc i)) = subst (λ x. broken ≤ link_weight ws i x) p.behind.is h in
+        let low : (i - 1) + 1 ≡ i = omega (arith, p.number.low) in
+        let all : (i - 1) + suc (suc links - suc i) ≡ links = omega (arith, p.number.low) in
+        subst (λ n. broken ≤ links_weight ws 1 n) all (links_least ws (i - 1) 1 (suc (suc links - suc i)) (subst (λ n. broken ≤ links_weight ws n (suc (suc links - suc i))) (sym low) here))
 
-pub behind_ends : (ws below : List ℕ) (links held : ℕ) → links ≤ most_links → Behind ws below links 1 held → AllWeighed ws links held
-behind_ends ws below links held few behind =
-    let all : suc links - 1 ≡ links = omega arith in
-    record { is = rw all at behind.is; small = omega (arith, behind.small) }
+    more_here : (r : ℕ) → r ≡ link_weight ws i held → Behind ws links i r
+    unfolding links_weight
+    more_here r is =
+        let now : r ≡ link_weight ws i (links_weight ws (suc i) (suc links - suc i)) = is ∙ ap (link_weight ws i) p.behind.is in
+        record { is = rw one_more now; small = omega (arith, p.behind.small, is, link_most ws i held p.number) }
+
+    pub no_stores : room ws i ≤ weight ws (k_merger i) → broken ≤ links_weight ws 1 links
+    no_stores none = broken_here (omega (arith, link_broken ws i held none))
+
+    pub ask_mergers : (below : List ℕ) (r : ℕ) → RoomIs ws below i r → Merging ws below i held r
+    ask_mergers below r left = record { of = ask_stores; small = omega (arith, p.behind.small, p.number.low); left = left }
+
+    pub merged : (o : Option ℕ) → Weighs o (link_weight ws i held) → FromLink ws links i o
+    merged None done = broken_here done
+    merged (Some r) done = more_here r done

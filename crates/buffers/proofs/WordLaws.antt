@@ -59,9 +59,6 @@ module _ (ws : List ℕ) (n m : ℕ) (p : Dropping ws n m) where
       ∙ ap (take (count_of ws n - m)) (drop-drop m (head_of ws n) ws ∙ ap (λ j. drop j ws) (add_assoc (base n) (start_of ws n) m)) in
       rw entries (word_now ws n (word_of ws n + m * 131071) (count_of ws n - m) (mark_of ws n) (start_of ws n + m) p.of drop_parts drop_fits)
 
-  pub drop_word : Word (set ws (8 + n) (word_of ws n + m * 131071)) n (mark_of ws n) (start_of ws n + m)
-  drop_word = word_is ws n (word_of ws n + m * 131071) (count_of ws n - m) (mark_of ws n) (start_of ws n + m) p.of drop_parts drop_fits
-
 module _ (ws : List ℕ) (n m : ℕ) (p : Growing ws n m) where
   grow_parts : Parts (word_of ws n + m) (count_of ws n + m) (mark_of ws n) (start_of ws n)
   grow_parts = parts (word_of ws n + m) (count_of ws n + m) (mark_of ws n) (start_of ws n) (omega (arith, whole (word_of ws n))) (omega (arith, p.room, p.of.room)) (omega arith)
@@ -71,9 +68,6 @@ module _ (ws : List ℕ) (n m : ℕ) (p : Growing ws n m) where
 
   pub grow_now : Now ws (set ws (8 + n) (word_of ws n + m)) n (take (count_of ws n + m) (drop (head_of ws n) ws))
   grow_now = word_now ws n (word_of ws n + m) (count_of ws n + m) (mark_of ws n) (start_of ws n) p.of grow_parts grow_fits
-
-  pub grow_word : Word (set ws (8 + n) (word_of ws n + m)) n (mark_of ws n) (start_of ws n)
-  grow_word = word_is ws n (word_of ws n + m) (count_of ws n + m) (mark_of ws n) (start_of ws n) p.of grow_parts grow_fits
 
 module _ (ws : List ℕ) (n m : ℕ) (p : Laying ws n m) where
   settle_parts : Parts m m 0 0
@@ -85,12 +79,6 @@ module _ (ws : List ℕ) (n m : ℕ) (p : Laying ws n m) where
       let z = word_now ws n m m 0 0 p.of settle_parts (omega (arith, p.room)) in
       rw e at z
 
-  pub settle_word : Word (set ws (8 + n) m) n 0 0
-  settle_word = word_is ws n m m 0 0 p.of settle_parts (omega (arith, p.room))
-
 module _ (ws : List ℕ) (n : ℕ) (p : Emptied ws n) where
   pub exhaust_now : Now ws (set ws (8 + n) 65536) n []
   exhaust_now = word_now ws n 65536 0 1 0 p.of (parts 65536 0 1 0 (omega arith) (omega arith) (omega arith)) (omega arith)
-
-  pub exhaust_word : Word (set ws (8 + n) 65536) n 1 0
-  exhaust_word = word_is ws n 65536 0 1 0 p.of (parts 65536 0 1 0 (omega arith) (omega arith) (omega arith)) (omega arith)

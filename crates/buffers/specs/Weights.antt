@@ -1,6 +1,6 @@
 -- The book test as numbers. A buffer weighs what stands in it and below it, all together; where a rule is broken it weighs more than any queue holds.
 use Prim.Native.Nat.{ℕ, zero, suc, ◌+◌, ◌-◌, ◌*◌, ◌≤◌, ◌<◌}
-use Rattle.std.specs.Prelude.{◌≡◌, Bool, ◌⊎◌, List, length, get_or, ltb}
+use Rattle.std.specs.Prelude.{◌≡◌, Bool, ◌⊎◌, List, length, get_or, ltb, Option, Some, None, MatchOption, ◌^◌}
 use Rattle.std.proofs.Math.Bool.{true, false}
 use Rattle.std.proofs.Math.Dec.{leb, eqb}
 use Rattle.rules.specs.Links.{s, k, first, capacity, buffer_count, most, widest, book_words, LinkNumber}
@@ -66,23 +66,26 @@ module _ (ws : List ℕ) where
       is_link_number (links_in ws) and leb inserted 7 and leb (inserted + links_weight 1 (links_in ws)) (most (links_in ws))
 
 -- what the whole test hands back: how many entries all buffers have together, where the book keeps every rule
-unfoldable pub held_if_sound : Book → ℕ
+unfoldable pub held_if_sound : Book → Option ℕ
 unfolding sound together buffer_count
-held_if_sound b = elim (sound b) [ true ↦ together b 0 (buffer_count b.links) | false ↦ broken ]
+held_if_sound b = elim (sound b) [ true ↦ Some (together b 0 (buffer_count b.links)) | false ↦ None ]
 
 -- ---- what the parts of the test ask and ensure
+
+-- what a part hands back: what it weighs, and None only where that is broken
+abbrev pub Weighs : Option ℕ → ℕ → Type 0
+Weighs r w = MatchOption r (broken ≤ w) (λ n. n ≡ w)
 
 -- all that the whole test asks: the book's words are there
 pub record HasBook (ws : List ℕ) : Type 0 where
   pub long : book_words ≤ length ws
 
 -- buffers low .. high - 1 of a link whose A has number a
-pub record Stretch (ws below : List ℕ) (a low high : ℕ) : Type 0 where
+pub record Stretch (ws : List ℕ) (a low high : ℕ) : Type 0 where
   pub long : book_words ≤ length ws
   pub up : low ≤ high
   pub few : high ≤ widest
   pub fits : 8 + (a + high) ≤ book_words
-  pub sized : length below ≡ widest
 
 -- they are weighed, each over what stands under it
 pub record Passed (ws below below' : List ℕ) (a low high size : ℕ) (under : ℕ → ℕ) : Type 0 where
@@ -109,13 +112,11 @@ pub record Stretched (ws below below' : List ℕ) (a low high size many : ℕ) (
   pub right : r ≡ true → Passed ws below below' a low high size nothing
   pub few : r ≡ true → (m : ℕ) → low ≤ m → m < high → count_of ws (a + m) ≤ many
   pub wrong : r ≡ false → Wrong ws a low high size nothing ⊎ Over ws a low high many
-  pub sized : length below' ≡ widest
 
 pub record Level (ws below : List ℕ) (a low : ℕ) : Type 0 where
   pub long : book_words ≤ length ws
   pub few : 4 * low ≤ widest
   pub fits : 8 + (a + 2 * low) ≤ book_words
-  pub sized : length below ≡ widest
   pub small : (m : ℕ) → 2 * low ≤ m → m < 4 * low → get_or below m 0 ≤ most_weight
 
 -- what stands under a merger's output: its two inputs
@@ -125,43 +126,52 @@ inputs below m = get_or below (2 * m) 0 + get_or below (2 * m + 1) 0
 pub record Levelled (ws below below' : List ℕ) (a low size : ℕ) (r : Bool) : Type 0 where
   pub right : r ≡ true → Passed ws below below' a low (2 * low) size (inputs below)
   pub wrong : r ≡ false → Wrong ws a low (2 * low) size (inputs below)
-  pub sized : length below' ≡ widest
 
 -- the S of link i are weighed
 pub record Stored (ws below : List ℕ) (i : ℕ) : Type 0 where
   pub weighed : (m : ℕ) → k i ≤ m → m < 2 * k i → get_or below m 0 ≡ weigh (word_of ws (first i + m)) (s i) 0
 
--- what `number` and `sized` give, by `of_link`, follows them, for the code's sums and places: a count has 16 bits, a buffer a word in the book
-pub record OfLink (ws below : List ℕ) (i : ℕ) : Type 0 where
+-- what `number` gives, by `of_link`, follows it, for the code's sums and places: a count has 16 bits, a buffer a word in the book
+pub record OfLink (ws : List ℕ) (i : ℕ) : Type 0 where
   pub long : book_words ≤ length ws
   pub number : LinkNumber i
-  pub sized : length below ≡ widest
   pub some : 2 ≤ k i
   pub few : 2 * k i ≤ widest
   pub part : s i ≤ 65535
   pub fits : 8 + (first i + 2 * k i) ≤ book_words
 
--- the room in link i, with its S weighed; or 0, where what stands below A(i) is too much for the room
-pub record RoomLeft (ws below' : List ℕ) (i r : ℕ) : Type 0 where
-  pub is : 0 < r → r ≡ room ws i
-  pub right : 0 < r → Stored ws below' i
-  pub none : r ≡ 0 → room ws i ≤ weight ws (k_merger i)
-  pub sized : length below' ≡ widest
+-- the room in link i, with its S weighed
+pub record RoomIs (ws below' : List ℕ) (i r : ℕ) : Type 0 where
+  pub is : r + 1 ≡ room ws i
+  pub right : Stored ws below' i
+
+-- None where what stands below A(i) is too much for the room
+abbrev pub RoomLeft : List ℕ → List ℕ → ℕ → Option ℕ → Type 0
+RoomLeft ws below' i r = MatchOption r (room ws i ≤ weight ws (k_merger i)) (RoomIs ws below' i)
 
 pub record Merging (ws below : List ℕ) (i behind r : ℕ) : Type 0 where
-  pub of : OfLink ws below i
+  pub of : OfLink ws i
   pub small : behind ≤ most_weight
-  pub left : RoomLeft ws below i r
+  pub left : RoomIs ws below i r
 
-pub record Weighed (ws below' : List ℕ) (i behind r : ℕ) : Type 0 where
-  pub is : r ≡ link_weight ws i behind
-  pub sized : length below' ≡ widest
+-- no link weighs more: of at most eight levels, each buffer as much as a broken one
+abbrev pub link_heavy : ℕ
+link_heavy = broken * 2 ^ 9
 
-pub record AllLinks (ws below : List ℕ) (links : ℕ) : Type 0 where
+-- so much is what the links from link i on weigh
+pub record Behind (ws : List ℕ) (links i held : ℕ) : Type 0 where
+  pub is : held ≡ links_weight ws i (suc links - i)
+  pub small : held ≤ link_heavy * (suc links - i)
+
+-- None only where all links together weigh as much as what is broken
+abbrev pub FromLink : List ℕ → ℕ → ℕ → Option ℕ → Type 0
+FromLink ws links i r = MatchOption r (broken ≤ links_weight ws 1 links) (Behind ws links i)
+
+pub record AllLinks (ws : List ℕ) (links : ℕ) : Type 0 where
   pub long : book_words ≤ length ws
   pub number : LinkNumber links
-  pub sized : length below ≡ widest
 
-pub record AllWeighed (ws : List ℕ) (links r : ℕ) : Type 0 where
-  pub is : r ≡ links_weight ws 1 links
-  pub small : r ≤ most_weight
+pub record Linking (ws : List ℕ) (links i held : ℕ) : Type 0 where
+  pub all : AllLinks ws links
+  pub number : LinkNumber i
+  pub behind : Behind ws links (suc i) held

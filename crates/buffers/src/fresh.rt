@@ -2,6 +2,7 @@
 ghost use Rattle.std.specs.Prelude.{◌≤◌, length};
 ghost use Rattle.buffers.specs.Fresh.{Written, CanBegin, Begun};
 
+use crate::word::FIRST;
 use rules::Link;
 
 // Writes w into every word from `at` up to `end`.
@@ -9,11 +10,7 @@ pub fn write(a: &mut [u64], at: usize, end: usize, w: u64)
     requires { (at ≤ end) × (end ≤ length a.old) }
     ensures { Written a.old a.new at end w }
 {
-    let mut n = at;
-    while n < end {
-        a[n] = w;
-        n += 1;
-    }
+    a[at..end].fill(w);
 }
 
 // The link number, every counter 1, and every buffer empty from its first slot on.
@@ -23,5 +20,5 @@ pub fn begin(a: &mut [u64], links: usize)
 {
     a[0] = links as u64;
     write(a, 1, links + 1, 1);
-    write(a, 8, 8 + Link::at(links + 1).first(), 0);
+    write(a, FIRST, FIRST + Link::at(links + 1).first(), 0);
 }
