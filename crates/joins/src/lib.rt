@@ -8,6 +8,7 @@ use rules::Rule;
 
 // Joins two runs where out has room for both. `handed` says how many entries are handed back; they are copied to rest if it has room for them.
 #[unsafe(no_mangle)]
+#[tactic(auto, using(runs::proofs::MergeLaws::until_most))]
 pub extern "C" fn joins_join<'a>(
     xs: &'a [u64],
     ys: &'a [u64],
@@ -18,17 +19,13 @@ pub extern "C" fn joins_join<'a>(
     ensures { Joined (key_by the_rule) xs.now ys.now out.old out.new rest.old rest.new handed.new result }
 {
     *handed = 0;
-    if out.len() < xs.len() {
-        return false;
-    }
-    if out.len() - xs.len() < ys.len() {
+    if out.len() < xs.len() + ys.len() {
         return false;
     }
     let back = runs::join(Rule {}, xs, ys, out);
-    let many = back.len();
-    *handed = many;
-    if many <= rest.len() {
-        runs::copy(back, rest);
+    *handed = back.len();
+    if back.len() <= rest.len() {
+        runs::lay(rest, 0, back);
     }
     true
 }
@@ -39,10 +36,8 @@ pub extern "C" fn joins_part(xs: &[u64], ys: &[u64], out: &mut [u64], first: &mu
     ensures { Parted (key_by the_rule) xs.now ys.now out.old out.new first.new result }
 {
     *first = 0;
-    if xs.len() < out.len() {
-        if ys.len() < out.len() - xs.len() {
-            return false;
-        }
+    if xs.len() + ys.len() < out.len() {
+        return false;
     }
     *first = runs::part(Rule {}, xs, ys, out);
     true

@@ -15,7 +15,8 @@ use Rattle.rules.specs.Tree.{Buffers, Tree, exhausted, buffer, merger, entries, 
 use Rattle.rules.specs.Fill.{Filled, untouched, if_empty, fill_room, fill}
 use Rattle.rules.specs.Take.{held_in}
 use Rattle.rules.proofs.Numbers.{Stands, itself, output, in_first, in_second, Outside, apart_back, Among, joint}
-use Rattle.rules.proofs.Full.{Roomy, no_entries}
+use Rattle.std.proofs.lemmas.List.{nil_from_length}
+use Rattle.rules.proofs.Full.{Roomy}
 use Rattle.rules.proofs.Contents.{Contents}
 use Rattle.rules.proofs.Steps.{stepped}
 use Rattle.rules.proofs.Frame.{frame_put, view_apart, view_set}
@@ -126,7 +127,7 @@ module _ (ws : List ℕ) (array : Inside ws) (n : ℕ) (lt : n < many ws) (t : T
   is_wanted w = go (ℕ_discrete (count_of ws n) 0)
     where
       go : Dec (count_of ws n ≡ 0) → entries t (buffers_of ws) ≡ []
-      go (yes none) = no_entries (entries t (buffers_of ws)) (top_count ∙ none)
+      go (yes none) = nil_from_length (entries t (buffers_of ws)) (top_count ∙ none)
       go (no some) =
           let not_so : wanted ws n ≡ false = rw (ne_eqb (count_of ws n) 0 some) in
           let clash : ◌≡◌ {A = Bool} true false = sym w ∙ not_so in
@@ -228,7 +229,7 @@ module _ (n c : ℕ) (one two : Tree) (ws₀ : List ℕ) (among₀ : Among (merg
   unfolding fill
   begin {key} array₀ ws none marks z w =
       let h = has ws₀ n array₀ (below₀ n output) in
-      let empty : buffer_of ws₀ n ≡ [] = no_entries (buffer_of ws₀ n) (buffer_length ws₀ n h ∙ none) in
+      let empty : buffer_of ws₀ n ≡ [] = nil_from_length (buffer_of ws₀ n) (buffer_length ws₀ n h ∙ none) in
       let top : get_or (buffers_of ws₀) n [] ≡ [] = buffers_at ws₀ n (below₀ n output) ∙ empty in
       let state : buffers_of ws ≡ buffers_of ws₀ = z.state ∙ ap (set (buffers_of ws₀) n) (sym top) ∙ set-get_or (buffers_of ws₀) n [] in
       let links = kept_links (only_kept ws₀ ws n h z.only) in
@@ -254,7 +255,7 @@ module _ (n c : ℕ) (one two : Tree) (ws₀ : List ℕ) (among₀ : Among (merg
   pub begin_state : Inside ws₀ → (ws : List ℕ) → count_of ws₀ n ≡ 0 → Now ws₀ ws n (take 0 (drop (base n) ws₀)) → buffers_of ws ≡ buffers_of ws₀
   begin_state array₀ ws none z =
       let h = has ws₀ n array₀ (below₀ n output) in
-      let top : get_or (buffers_of ws₀) n [] ≡ [] = buffers_at ws₀ n (below₀ n output) ∙ no_entries (buffer_of ws₀ n) (buffer_length ws₀ n h ∙ none) in
+      let top : get_or (buffers_of ws₀) n [] ≡ [] = buffers_at ws₀ n (below₀ n output) ∙ nil_from_length (buffer_of ws₀ n) (buffer_length ws₀ n h ∙ none) in
       z.state ∙ ap (set (buffers_of ws₀) n) (sym top) ∙ set-get_or (buffers_of ws₀) n []
 
   -- filling the first input does not touch the second
@@ -480,7 +481,7 @@ module _ (n c : ℕ) (one two : Tree) (ws₀ : List ℕ) (among₀ : Among (merg
     done_none ws' none e held_one held_two z =
         let lt : n < many ws = rw (kept_links f.kept) (below₀ n output) in
         let h = has ws n f.array lt in
-        let empty : get_or (buffers_of ws) n [] ≡ [] = buffers_at ws n lt ∙ no_entries (buffer_of ws n) (buffer_length ws n h ∙ f.count ∙ none) in
+        let empty : get_or (buffers_of ws) n [] ≡ [] = buffers_at ws n lt ∙ nil_from_length (buffer_of ws n) (buffer_length ws n h ∙ f.count ∙ none) in
         let same : buffers_of ws' ≡ buffers_of ws = z.state ∙ ap (set (buffers_of ws) n) (sym empty) ∙ set-get_or (buffers_of ws) n [] in
         let kept = kept_then f.kept (only_kept ws ws' n h z.only) in
         let words : (m : ℕ) → m ≢ n → m < many ws₀ → word_of ws' m ≡ word_of ws m = λ m differ low. only_word ws ws' n h z.only m (rw (kept_links f.kept) low) differ in

@@ -1,5 +1,5 @@
 -- Entries laid behind the output's last one and counted in, and dropped from the inputs: what merge steps leave.
-use Prim.Native.Nat.{ℕ, ◌+◌, ◌-◌, ◌≤◌, ◌<◌}
+use Prim.Native.Nat.{ℕ, ◌+◌, ◌-◌, ◌≤◌, ◌<◌, min}
 use mathlib.Core.Path.{◌≡◌, sym, ap, ◌∙◌}
 use mathlib.Core.Logic.{◌≢◌}
 use mathlib.Core.List.{List, [], ◌++◌}
@@ -100,11 +100,17 @@ input_apart ws out to room one from h p q ep eq m r less small x a b c d =
 
 -- ---- one input
 
-module _ (ws : List ℕ) (out to room one from : ℕ) (h : Moving ws out to room one from) (m : ℕ) (small : m ≤ room) (less : m ≤ count_of ws one) where
+module _ (ws : List ℕ) (out to room one from : ℕ) (h : Moving ws out to room one from) (m : ℕ) (m_is : m ≡ min room (length (buffer_of ws one))) where
+  small : m ≤ room
+  small = omega arith
+
+  less : m ≤ count_of ws one
+  less = omega (arith, buffer_length ws one h.input.of)
+
   pub moving_run : (p q : ℕ) → p ≡ head_of ws one → q ≡ head_of ws out + count_of ws out → Moves ws q p m
   moving_run p q ep eq = record {
-    free = omega (arith, h.free, h.output.of.slots);
-    inside = omega (arith, h.input.of.fits, h.input.of.slots);
+    free = omega (arith, small, h.free, h.output.of.slots);
+    inside = omega (arith, less, h.input.of.fits, h.input.of.slots);
     apart = input_apart ws out to room one from h p q ep eq m m less small;
   }
 
@@ -112,10 +118,10 @@ module _ (ws : List ℕ) (out to room one from : ℕ) (h : Moving ws out to room
   moved = take m (buffer_of ws one)
 
   moved_long : length moved ≡ m
-  moved_long = length-take-le m (buffer_of ws one) (omega (arith, buffer_length ws one h.input.of))
+  moved_long = length-take-le m (buffer_of ws one) (omega arith)
 
   moved_room : start_of ws out + count_of ws out + m ≤ capacity_of out
-  moved_room = omega (arith, h.free)
+  moved_room = omega (arith, small, h.free)
 
   -- what is copied is the input's first entries
   pub moved_is : (p : ℕ) → p ≡ head_of ws one → take m (drop p ws) ≡ moved
@@ -148,33 +154,34 @@ module _ (ws : List ℕ) (out to room one from : ℕ) (h : Moving ws out to room
 -- ---- two inputs
 
 module _ (ws : List ℕ) (out to room one from two other : ℕ) (h : Merging ws out to room one from two other) where
-  -- where the code finds the inputs' entries and the output's end
-  pub record Found (p p_end q q_end r : ℕ) : Type 0 where
+  -- where the code finds the inputs' entries, the output's end, and the room behind it
+  pub record Found (p p_end q q_end r k : ℕ) : Type 0 where
     pub p_is : p ≡ head_of ws one
-    pub p_end_is : p_end ≡ p + count_of ws one
+    pub p_end_is : p_end ≡ head_of ws one + count_of ws one
     pub q_is : q ≡ head_of ws two
-    pub q_end_is : q_end ≡ q + count_of ws two
+    pub q_end_is : q_end ≡ head_of ws two + count_of ws two
     pub r_is : r ≡ head_of ws out + count_of ws out
+    pub room_is : k ≡ room
 
-module _ {ws : List ℕ} {out to room one from two other : ℕ} {h : Merging ws out to room one from two other} {p p_end q q_end r : ℕ} (f : Found ws out to room one from two other h p p_end q q_end r) where
-  pub stretches : Stretches ws r p p_end q q_end room
+module _ {ws : List ℕ} {out to room one from two other : ℕ} {h : Merging ws out to room one from two other} {p p_end q q_end r k : ℕ} (f : Found ws out to room one from two other h p p_end q q_end r k) where
+  pub stretches : Stretches ws r p p_end q q_end k
   stretches = record {
-    free = omega (arith, h.first.free, h.first.output.of.slots, f.r_is);
-    one_starts = omega (arith, f.p_end_is);
-    one_inside = omega (arith, f.p_is, f.p_end_is, h.first.input.of.fits, h.first.input.of.slots);
-    two_starts = omega (arith, f.q_end_is);
-    two_inside = omega (arith, f.q_is, f.q_end_is, h.second.input.of.fits, h.second.input.of.slots);
-    one_apart = rw f.p_end_is (input_apart ws out to room one from h.first p r f.p_is f.r_is (count_of ws one) room (omega arith) (omega arith));
-    two_apart = rw f.q_end_is (input_apart ws out to room two other h.second q r f.q_is f.r_is (count_of ws two) room (omega arith) (omega arith));
+    free = omega (arith, h.first.free, h.first.output.of.slots, f.r_is, f.room_is);
+    one_starts = omega (arith, f.p_is, f.p_end_is);
+    one_inside = omega (arith, f.p_end_is, h.first.input.of.fits, h.first.input.of.slots);
+    two_starts = omega (arith, f.q_is, f.q_end_is);
+    two_inside = omega (arith, f.q_end_is, h.second.input.of.fits, h.second.input.of.slots);
+    one_apart = rw (f.p_end_is, ← f.p_is) (input_apart ws out to room one from h.first p r f.p_is f.r_is (count_of ws one) k (omega arith) (omega (arith, f.room_is)));
+    two_apart = rw (f.q_end_is, ← f.q_is) (input_apart ws out to room two other h.second q r f.q_is f.r_is (count_of ws two) k (omega arith) (omega (arith, f.room_is)));
   }
 
-  entries_found : (k x x_end : ℕ) → x ≡ head_of ws k → x_end ≡ x + count_of ws k → stretch x x_end ws ≡ buffer_of ws k
+  entries_found : (n x x_end : ℕ) → x ≡ head_of ws n → x_end ≡ head_of ws n + count_of ws n → stretch x x_end ws ≡ buffer_of ws n
   unfolding buffer_of
-  entries_found k x x_end a b = let long : x_end - x ≡ count_of ws k = omega arith in rw (long, a)
+  entries_found n x x_end a b = let long : x_end - x ≡ count_of ws n = omega arith in rw (long, a)
 
-  module _ {key : ℕ → ℕ} (ws₁ : List ℕ) (m g : ℕ) (found : Merges key (stretch p p_end ws) (stretch q q_end ws) ws ws₁ r room m g) where
+  module _ {key : ℕ → ℕ} (ws₁ : List ℕ) (m g : ℕ) (found : Merges key (stretch p p_end ws) (stretch q q_end ws) ws ws₁ r k m g) where
     pub run : Merges key (buffer_of ws one) (buffer_of ws two) ws ws₁ r room m g
-    run = rw (entries_found one p p_end f.p_is f.p_end_is, entries_found two q q_end f.q_is f.q_end_is) at found
+    run = rw (entries_found one p p_end f.p_is f.p_end_is, entries_found two q q_end f.q_is f.q_end_is, f.room_is) at found
 
     abbrev after : Merged
     after = merged key m (buffer_of ws one) (buffer_of ws two)

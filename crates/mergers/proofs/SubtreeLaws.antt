@@ -102,21 +102,6 @@ module _ (last : ℕ) {i : ℕ} (h : LinkNumber i) where
   fed_by_two low zero high = fed_a low ∙ rw (add-zero (first i))
   fed_by_two low (suc j) high = fed_inner (suc j) (omega arith) high
 
-pub first_input_is : (j : ℕ) → 0 < j → 2 * j ≡ first_input j
-first_input_is zero h = absurd (omega arith)
-first_input_is (suc j) h = refl
-
-pub second_input_is : (j : ℕ) → 0 < j → 2 * j + 1 ≡ second_input j
-second_input_is zero h = absurd (omega arith)
-second_input_is (suc j) h = refl
-
-pub second_link_is : (i j : ℕ) → 0 < j → i ≡ second_link i j
-second_link_is i zero h = absurd (omega arith)
-second_link_is i (suc j) h = refl
-
-pub second_link_next : (i j : ℕ) → j ≡ 0 → i + 1 ≡ second_link i j
-second_link_next i j e = rw e (omega arith)
-
 -- ---- where a buffer is
 
 pub first_below : (i : ℕ) → 1 ≤ i → i ≤ suc most_links → first i ≤ book_words
@@ -126,8 +111,8 @@ first_below i low high = omega (arith, first_mono i (suc most_links) low high, i
 pub base_here : {i j : ℕ} → InLink i j → {i' r : ℕ} → i' ≡ i → r ≡ start i' + offset i' j → book_words + r ≡ base (first i + j)
 base_here {i} {j} h {i'} {r} e f = let g : r ≡ start i + offset i j = rw e at f in rw g (sym (base_is h))
 
-pub base_below : {i j : ℕ} → InLink i j → base (first i + j) ≤ 2 ^ 32
-base_below {i} {j} h = base_small (first i + j) (omega (arith, h.below, first_most h.link))
+pub slot_small : {i j : ℕ} → InLink i j → {i' r : ℕ} → i' ≡ i → r ≡ start i' + offset i' j → book_words + r ≤ 2 ^ 32
+slot_small {i} {j} h e f = omega (arith, base_here h e f, base_small (first i + j) (omega (arith, h.below, first_most h.link)))
 
 pub spot : {i j : ℕ} → InLink i j → Spot i j
 spot h = record { low = h.link.low; high = omega (arith, h.link.high); few = h.few; inside = λ most. h }

@@ -2,24 +2,23 @@
 use Prim.Native.Nat.{ℕ, zero, suc, ◌+◌, ◌-◌, ◌≤◌, ◌<◌, min}
 use mathlib.Core.Path.{◌≡◌, refl, sym, ap, ◌∙◌}
 use mathlib.Core.Logic.{◌⊎◌, inl, inr}
-use mathlib.Core.Bool.{Bool, true, false}
 use mathlib.Core.List.{List, [], ◌∷◌}
 use native.Mathlib.Omega.{arith}
 use native.Mathlib.Decide.{dec_lt}
-use lib.Dec.{leb}
 use lib.ListN.{length}
 use Rattle.rules.specs.Tree.{Buffers, Tree, merger, entries}
 use Rattle.rules.specs.Merge.{Step, stop, move, merge_step}
 use Rattle.rules.specs.Fill.{Filled, untouched, if_empty, move_up, step_and, fill_room, fill}
 use Rattle.rules.specs.Take.{held_in}
 use Rattle.rules.proofs.Numbers.{Among, joint, among_first, among_second}
-use Rattle.rules.proofs.Full.{Roomy, fill_found_none, no_entries}
+use Rattle.rules.proofs.Full.{Roomy, fill_found_none}
+use Rattle.std.proofs.lemmas.List.{nil_from_length}
 use Rattle.rules.proofs.Weight.{fill_held}
 use Rattle.rules.proofs.Frame.{Framed, fill_frame, if_empty_frame, view_apart}
 use Rattle.rules.proofs.Contents.{Contents, below, view}
 use Rattle.rules.proofs.Full.{held_seen, held_below}
 use Rattle.runs.specs.Until.{until_empty}
-use Rattle.runs.proofs.MergeLaws.{until_within, until_most}
+use Rattle.runs.proofs.MergeLaws.{until_within, until_most, until_some}
 use Rattle.mergers.specs.Moves.{run_length}
 use Rattle.mergers.proofs.RunLaws.{runs_all, plus, filling, advanced, room_step, run_law}
 
@@ -76,9 +75,6 @@ module _ (key : ℕ → ℕ) (n c : ℕ) (one two : Tree) (roomy_one : Roomy one
     abbrev now : Buffers
     now = second.buffers
 
-    pub many_now : length now ≡ length bs
-    many_now = (refilled_frame key two first.buffers).as_many ∙ (refilled_frame key one bs).as_many
-
     pub one_ready : Ready one now
     one_ready =
         ready_seen one first.buffers now (view_apart (joint among).apart (refilled_frame key two first.buffers)) (refilled_ready key roomy_one bs (among_first among))
@@ -115,19 +111,11 @@ module _ (key : ℕ → ℕ) where
   run_within room (x ∷ xs) [] = omega arith
   run_within room (x ∷ xs) (y ∷ ys) = until_within key room (x ∷ xs) (y ∷ ys)
 
-  until_some : (room : ℕ) (x : ℕ) (xs : List ℕ) (y : ℕ) (ys : List ℕ) → 0 < until_empty key (suc room) (x ∷ xs) (y ∷ ys)
-  unfolding until_empty
-  until_some room x xs y ys = go (leb (key x) (key y))
-    where
-      go : (b : Bool) → 0 < elim b [ true ↦ suc (until_empty key room xs (y ∷ ys)) | false ↦ suc (until_empty key room (x ∷ xs) ys) ]
-      go true = omega arith
-      go false = omega arith
-
   pub run_none : (room : ℕ) (xs ys : List ℕ) → run_length key (suc room) xs ys ≡ 0 → (xs ≡ []) × (ys ≡ [])
   unfolding run_length
-  run_none room [] ys e = (refl, no_entries ys (omega arith))
+  run_none room [] ys e = (refl, nil_from_length ys (omega arith))
   run_none room (x ∷ xs) [] e = absurd (omega arith)
-  run_none room (x ∷ xs) (y ∷ ys) e = absurd (omega (arith, until_some room x xs y ys))
+  run_none room (x ∷ xs) (y ∷ ys) e = absurd (omega (arith, until_some key (suc room) (x ∷ xs) (y ∷ ys) (omega arith) (omega arith) (omega arith)))
 
   -- the length of a run, by which inputs have entries
   pub run_second : (room : ℕ) (xs ys : List ℕ) → xs ≡ [] → run_length key room xs ys ≡ min room (length ys)

@@ -116,12 +116,6 @@ module _ (key : ℕ → ℕ) {ws₀ ws₁ : List ℕ} {last i j n at room n₁ a
       roomy_of : {m d : ℕ} {a b : Tree} → Roomy (merger m d a b) → Roomy b
       roomy_of (over some x y) = y
 
-  c_some : 0 < c
-  c_some = some_of roomy
-    where
-      some_of : {m d : ℕ} {a b : Tree} → Roomy (merger m d a b) → 0 < d
-      some_of (over some x y) = some
-
   last_few : last ≤ most_links
   last_few = omega (arith, g.pre.links, g.pre.array.link.high)
 

@@ -7,6 +7,7 @@ use Rattle.rules.specs.Tests.{◌and◌}
 use Rattle.buffers.specs.Slots.{base, capacity_of}
 use Rattle.buffers.specs.Format.{word_of, count_of, start_of, mark_of, many, buffer_of, buffers_of}
 use Rattle.buffers.specs.Post.{Inside, Has, Kept}
+use Rattle.mergers.specs.declared.Merger.{Merger}
 
 -- an input is to be filled: it is empty and has no mark
 abbrev pub wanted : List ℕ → ℕ → Bool
@@ -85,3 +86,19 @@ touched_if false one two = one
 abbrev pub turned_by : (ℕ → ℕ) → Bool → ℕ → List ℕ → ℕ → ℕ → ℕ → Buffers
 turned_by key true m ws out one two = merged_by key m ws out one two
 turned_by key false m ws out one two = moved_by m ws out one
+
+-- ---- the same of a merger's own output and inputs
+
+abbrev pub CanMerge : List ℕ → Merger → ℕ → Type 0
+CanMerge ws v room = Merging ws v.out.number v.out.at room v.one.number v.one.at v.two.number v.two.at
+
+abbrev pub CanTurn : List ℕ → ℕ → Merger → ℕ → Type 0
+CanTurn ws last v room = Turning ws last v.link v.out.number v.out.at room v.one.number v.one.at v.two.number v.two.at
+
+abbrev pub HasMerged : (ℕ → ℕ) → List ℕ → List ℕ → Merger → ℕ → Type 0
+HasMerged key ws ws' v m = Ran ws ws' v.out.number v.one.number v.two.number (merged_by key m ws v.out.number v.one.number v.two.number)
+
+-- where the second input counts, or does not
+abbrev pub HasTurned : (ℕ → ℕ) → Bool → List ℕ → List ℕ → Merger → ℕ → Type 0
+HasTurned key counts ws ws' v m =
+    Ran ws ws' v.out.number v.one.number (touched_if counts v.one.number v.two.number) (turned_by key counts m ws v.out.number v.one.number v.two.number)

@@ -5,15 +5,17 @@ ghost use Rattle.std.specs.Prelude.{◌≡◌, ℕ, suc, ◌+◌, ◌*◌, ◌�
 ghost use Rattle.rules.specs.Entries.{key_by};
 ghost use Rattle.rules.specs.Links.{capacity, most_links, book_words};
 ghost use Rattle.rules.specs.Fill.{fill};
-ghost use Rattle.buffers.specs.Format.{buffer_of, buffers_of};
+ghost use Rattle.buffers.specs.Format.{count_of, head_of, buffer_of, buffers_of};
 ghost use Rattle.buffers.specs.Post.{Has};
 ghost use Rattle.runs.specs.Until.{until_empty};
 ghost use Rattle.mergers.specs.Moves.{run_length};
 ghost use Rattle.mergers.specs.Subtree.{subtree, first_input, second_input, second_link};
 ghost use Rattle.mergers.specs.Fills.{CanFill, Did};
-ghost use Rattle.mergers.specs.Post.{wanted, Spot, Placed, Moving, Fed, Merging, Turning, Ran, wanted_in, moved_by, merged_by, seen_if, touched_if, turned_by};
+ghost use Rattle.mergers.specs.Post.{wanted, At, Spot, Placed, Moving, Fed, Ran, wanted_in, moved_by, seen_if, CanMerge, CanTurn, HasMerged, HasTurned};
 
 use rules::{Link, Rule};
+use runs::Run;
+use std::ops::Range;
 
 // A buffer: its number, and the word at which its slots begin.
 #[derive(Clone, Copy)]
@@ -22,7 +24,32 @@ pub struct Place {
     pub at: usize,
 }
 
+impl Place {
+    // I, and A(1) behind it.
+    pub const INSERTION: Self = Self {
+        number: 0,
+        at: Link::BOOK,
+    };
+
+    pub const FIRST: Self = Self {
+        number: 1,
+        at: Link::BOOK + Link::INSERTION,
+    };
+
+    // The words at which its entries stand.
+    #[tactic(auto, using(buffers::proofs::ArrayLaws::buffer_length))]
+    fn entries(self, a: &[u64]) -> Range<usize>
+        requires { At a.now self.number self.at }
+        ensures start { result.start ≡ head_of a.now self.number }
+        ensures end { result.end ≡ head_of a.now self.number + count_of a.now self.number }
+    {
+        let start = self.at + buffers::start_place(a, self.number);
+        start..start + buffers::count(a, self.number)
+    }
+}
+
 // Where link i's buffer j is.
+#[tactic(auto, using(crate::proofs::SubtreeLaws::first_below, crate::proofs::SubtreeLaws::base_here, crate::proofs::SubtreeLaws::slot_small))]
 pub fn place_of(i: usize, j: usize) -> Place
     requires { Spot i j }
     ensures { Placed i j result.number result.at }
@@ -73,6 +100,7 @@ pub struct Merger {
 }
 
 // The merger whose output is link i's buffer j.
+#[tactic(auto, using(crate::proofs::SubtreeLaws::first_spot, crate::proofs::SubtreeLaws::second_spot))]
 pub fn merger_of(i: usize, j: usize) -> Merger
     requires { Fed i j }
     ensures out { Placed i j result.out.number result.out.at }
@@ -98,21 +126,20 @@ pub fn merger_of(i: usize, j: usize) -> Merger
 }
 
 // Whether an input is to be filled: it is empty and not known to be exhausted.
+#[tactic(auto, using(buffers::proofs::ArrayLaws::buffer_length))]
 pub fn wants(a: &[u64], n: usize) -> bool
     requires { Has a.now n }
     ensures { result ≡ wanted a.now n }
 {
-    if buffers::count(a, n) == 0 {
-        return !buffers::exhausted(a, n);
-    }
-    false
+    buffers::count(a, n) == 0 && !buffers::exhausted(a, n)
 }
 
-// The lesser of two numbers.
-pub fn least(x: usize, y: usize) -> usize
-    ensures { result ≡ min x y }
+// Whether an input in link i is to be filled, where links behind `last` count as exhausted.
+pub fn wants_in(a: &[u64], last: usize, i: usize, n: usize) -> bool
+    requires { i ≤ last → Has a.now n }
+    ensures { result ≡ wanted_in a.now last i n }
 {
-    if x <= y { x } else { y }
+    i <= last && wants(a, n)
 }
 
 // Merge steps from one input alone, until it is empty or the room used up.
@@ -121,99 +148,59 @@ pub fn move_steps(a: &mut [u64], out: Place, room: usize, one: Place) -> usize
     ensures value { result ≡ min room (length (buffer_of a.old one.number)) }
     ensures ran { Ran a.old a.new out.number one.number one.number (moved_by result a.old out.number one.number) }
 {
-    let n = out.number;
-    let k = one.number;
-    let m = least(room, buffers::count(a, k));
-    let from = one.at + buffers::start_place(a, k);
-    let to = out.at + buffers::start_place(a, n) + buffers::count(a, n);
-    runs::move_run(a, to, from, m);
-    buffers::grow(a, n, m);
-    buffers::drop_front(a, k, m);
-    m
+    let moved = room.min(buffers::count(a, one.number));
+    let from = one.entries(a).start;
+    let to = out.entries(a).end;
+    runs::move_run(a, to, from, moved);
+    buffers::grow(a, out.number, moved);
+    buffers::drop_front(a, one.number, moved);
+    moved
 }
 
-// Merge steps from two inputs, until one is empty or the room used up.
-pub fn merge_both(
-    rule: Rule,
-    a: &mut [u64],
-    out: Place,
-    room: usize,
-    one: Place,
-    two: Place,
-) -> usize
-    requires { Merging a.old out.number out.at room one.number one.at two.number two.at }
-    ensures value { result ≡ until_empty (key_by rule) room (buffer_of a.old one.number) (buffer_of a.old two.number) }
-    ensures ran { Ran a.old a.new out.number one.number two.number (merged_by (key_by rule) result a.old out.number one.number two.number) }
-{
-    let n = out.number;
-    let k = one.number;
-    let l = two.number;
-    let p = one.at + buffers::start_place(a, k);
-    let p_end = p + buffers::count(a, k);
-    let q = two.at + buffers::start_place(a, l);
-    let q_end = q + buffers::count(a, l);
-    let to = out.at + buffers::start_place(a, n) + buffers::count(a, n);
-    let run = runs::merge_run(rule, a, to, p, p_end, q, q_end, room);
-    let m = run.moved;
-    let f = run.first;
-    buffers::grow(a, n, m);
-    buffers::drop_front(a, k, f);
-    buffers::drop_front(a, l, m - f);
-    m
-}
+impl Merger {
+    // Merge steps from both inputs, until one is empty or so much room used up.
+    pub fn merge_both(self, rule: Rule, a: &mut [u64], room: usize) -> usize
+        requires { CanMerge a.old self room }
+        ensures value { result ≡ until_empty (key_by rule) room (buffer_of a.old self.one.number) (buffer_of a.old self.two.number) }
+        ensures ran { HasMerged (key_by rule) a.old a.new self result }
+    {
+        let one = self.one.entries(a);
+        let two = self.two.entries(a);
+        let to = self.out.entries(a).end;
+        let Run { moved, first } = runs::merge_run(rule, a, to..to + room, one, two);
+        buffers::grow(a, self.out.number, moved);
+        buffers::drop_front(a, self.one.number, first);
+        buffers::drop_front(a, self.two.number, moved - first);
+        moved
+    }
 
-// Merge steps from two inputs, until one that has entries is empty or the room used up.
-pub fn merge_steps(
-    rule: Rule,
-    a: &mut [u64],
-    out: Place,
-    room: usize,
-    one: Place,
-    two: Place,
-) -> usize
-    requires { Merging a.old out.number out.at room one.number one.at two.number two.at }
-    ensures value { result ≡ run_length (key_by rule) room (buffer_of a.old one.number) (buffer_of a.old two.number) }
-    ensures ran { Ran a.old a.new out.number one.number two.number (merged_by (key_by rule) result a.old out.number one.number two.number) }
-{
-    if buffers::count(a, one.number) == 0 {
-        return move_steps(a, out, room, two);
+    // Merge steps from both inputs, until one that has entries is empty or so much room used up.
+    pub fn merge_steps(self, rule: Rule, a: &mut [u64], room: usize) -> usize
+        requires { CanMerge a.old self room }
+        ensures value { result ≡ run_length (key_by rule) room (buffer_of a.old self.one.number) (buffer_of a.old self.two.number) }
+        ensures ran { HasMerged (key_by rule) a.old a.new self result }
+    {
+        if buffers::count(a, self.one.number) == 0 {
+            return move_steps(a, self.out, room, self.two);
+        }
+        if buffers::count(a, self.two.number) == 0 {
+            return move_steps(a, self.out, room, self.one);
+        }
+        self.merge_both(rule, a, room)
     }
-    if buffers::count(a, two.number) == 0 {
-        return move_steps(a, out, room, one);
-    }
-    merge_both(rule, a, out, room, one, two)
-}
 
-// Whether an input in link i is to be filled, where links behind `last` count as exhausted.
-pub fn wants_in(a: &[u64], last: usize, i: usize, n: usize) -> bool
-    requires { i ≤ last → Has a.now n }
-    ensures { result ≡ wanted_in a.now last i n }
-{
-    if i <= last {
-        return wants(a, n);
+    // Merge steps of one turn, for which there is so much room; where the second input's link lies behind `last`, it counts as exhausted.
+    #[tactic(auto, using(crate::proofs::TurnLaws::run_one))]
+    pub fn turn_steps(self, rule: Rule, a: &mut [u64], last: usize, room: usize) -> usize
+        requires { CanTurn a.old last self room }
+        ensures value { result ≡ run_length (key_by rule) room (buffer_of a.old self.one.number) (seen_if (leb self.link last) (buffer_of a.old self.two.number)) }
+        ensures ran { HasTurned (key_by rule) (leb self.link last) a.old a.new self result }
+    {
+        if self.link <= last {
+            return self.merge_steps(rule, a, room);
+        }
+        move_steps(a, self.out, room, self.one)
     }
-    false
-}
-
-// Merge steps of one turn; the second input is in link i, where links behind `last` count as exhausted.
-pub fn turn_steps(
-    rule: Rule,
-    a: &mut [u64],
-    last: usize,
-    i: usize,
-    out: Place,
-    room: usize,
-    one: Place,
-    two: Place,
-) -> usize
-    requires { Turning a.old last i out.number out.at room one.number one.at two.number two.at }
-    ensures value { result ≡ run_length (key_by rule) room (buffer_of a.old one.number) (seen_if (leb i last) (buffer_of a.old two.number)) }
-    ensures ran { Ran a.old a.new out.number one.number (touched_if (leb i last) one.number two.number) (turned_by (key_by rule) (leb i last) result a.old out.number one.number two.number) }
-{
-    if i <= last {
-        return merge_steps(rule, a, out, room, one, two);
-    }
-    move_steps(a, out, room, one)
 }
 
 // Fills link i's buffer j, which is empty: merge steps until it is full or nothing is left below. Links behind `last` count as exhausted. Answers the merge steps.
@@ -230,23 +217,25 @@ pub fn fill(rule: Rule, a: &mut [u64], last: usize, i: usize, j: usize) -> u64
     let mut steps: u64 = 0;
     let mut filled: usize = 0;
     while filled < v.room {
-        let mut x: u64 = 0;
-        if wants_in(a, last, i, v.one.number) {
-            x = fill(rule, a, last, i, v.first);
-        }
-        let mut y: u64 = 0;
-        if wants_in(a, last, v.link, v.two.number) {
-            y = fill(rule, a, last, v.link, v.second);
-        }
-        let m = turn_steps(rule, a, last, v.link, v.out, v.room - filled, v.one, v.two);
-        steps = steps + x + y + m as u64;
+        let x = if wants_in(a, last, i, v.one.number) {
+            fill(rule, a, last, i, v.first)
+        } else {
+            0
+        };
+        let y = if wants_in(a, last, v.link, v.two.number) {
+            fill(rule, a, last, v.link, v.second)
+        } else {
+            0
+        };
+        let m = v.turn_steps(rule, a, last, v.room - filled);
+        steps += x + y + m as u64;
         if m == 0 {
             if filled == 0 {
                 buffers::exhaust(a, n);
             }
             return steps;
         }
-        filled = filled + m;
+        filled += m;
     }
     steps
 }

@@ -1,18 +1,15 @@
 -- Laws of joining, for any order of the entries.
-use mathlib.Core.Path.{◌≡◌, refl, sym, ap, ◌∙◌}
+use mathlib.Core.Path.{◌≡◌, sym, ap, ◌∙◌}
 use mathlib.Core.List.{List, [], ◌∷◌, ◌++◌}
 use mathlib.Core.Logic.{◌⊎◌, inl, inr}
 use Prim.Native.Nat.{ℕ, suc, ◌+◌, ◌≤◌}
 use native.Mathlib.Omega.{arith}
 use lib.ListN.{length}
 use lib.Seq.{take_all}
+use Rattle.std.proofs.lemmas.List.{nil_from_length}
 use Rattle.rules.specs.Merge.{merged, join}
 use Rattle.runs.specs.Until.{pick, outlasts, until_end, join_until_end}
 use Rattle.runs.proofs.MergeLaws.{merged_split, merged_one, merged_two, length_out, conserved, until_most, until_ends}
-
-no_entries : (xs : List ℕ) → length xs ≡ 0 → xs ≡ []
-no_entries [] e = refl
-no_entries (x ∷ xs) e = absurd (omega arith)
 
 module _ (key : ℕ → ℕ) where
   pub join_one : (xs : List ℕ) → join key xs [] ≡ xs
@@ -45,7 +42,7 @@ module _ (key : ℕ → ℕ) where
       t = until_end key xs ys
 
       go : (t ≡ length xs + length ys) ⊎ (((merged key t xs ys).one ≡ []) ⊎ ((merged key t xs ys).two ≡ [])) → ((merged key t xs ys).one ≡ []) ⊎ ((merged key t xs ys).two ≡ [])
-      go (inl all) = inl (no_entries (merged key t xs ys).one (omega (arith, conserved key t xs ys, length_out key t xs ys (omega arith))))
+      go (inl all) = inl (nil_from_length (merged key t xs ys).one (omega (arith, conserved key t xs ys, length_out key t xs ys (omega arith))))
       go (inr ended) = ended
 
   -- what is laid and the rest are the two runs joined

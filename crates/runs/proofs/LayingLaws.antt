@@ -10,7 +10,8 @@ use native.Mathlib.Numerals.{add-one}
 use native.Mathlib.Nat.{zero-add, add-zero, sub-zero}
 use lib.Dec.{leb}
 use lib.ListN.{length, take, drop, get_or, set, length-append, length-take, length-drop, length-set, take-append-drop, drop_of_length-le, get_or-append}
-use lib.Seq.{drop-cons, set_at, append_snoc, take_at, drop_at, take-append_seam, ext_get_or, take-take, take-nil, length-take-le, take_all, drop-drop, take-suc, get_or-append-add, get_or-take, get_or-drop}
+use Rattle.std.proofs.lemmas.List.{drop-append-le}
+use lib.Seq.{drop-cons, set_at, append_snoc, take_at, drop_at, take-append_seam, ext_get_or, take-take, take-nil, length-take-le, take_all, drop-drop, get_or-append-add, get_or-take, get_or-drop}
 use Rattle.rules.specs.Merge.{merged}
 use Rattle.runs.specs.Promises.{laid_at, stretch, Apart, Parts}
 use Rattle.runs.proofs.MergeLaws.{reached, moves_first, moves_second, merged_more, merged_split, length_out}
@@ -128,40 +129,15 @@ stretch_drop a from end n =
 pub to_the_end : (xs : List ℕ) (i : ℕ) → take (length xs - i) (drop i xs) ≡ drop i xs
 to_the_end xs i = take_all (length xs - i) (drop i xs) (simp length-drop (omega arith))
 
-pub rest_has : (xs : List ℕ) (i : ℕ) → i < length xs → 0 < length (take (length xs - i) (drop i xs))
-rest_has xs i h = rw (to_the_end xs i, length-drop) (omega arith)
+-- ---- a lent part
 
--- ---- a copy
-
--- i words of a run are copied
-pub record Copying (from to₀ to : List ℕ) (i : ℕ) : Type 0 where
-  pub inside : i ≤ length from
-  pub sized : length to ≡ length to₀
-  pub laid : to ≡ laid_at to₀ 0 (take i from)
-
-pub copy_start : (from to : List ℕ) → Copying from to to 0
-copy_start from to = record { inside = omega arith; sized = refl; laid = laid_none to 0 }
-
-pub copy_more : (from to₀ to : List ℕ) (i : ℕ) → Copying from to₀ to i → i < length from → i < length to₀ → Copying from to₀ (set to i (get_or from i 0)) (i + 1)
-copy_more from to₀ to i c h free =
-    let place : i ≡ 0 + length (take i from) = omega (arith, length-take-le i from c.inside) in
-    record {
-      inside = omega arith;
-      sized = length-set to i (get_or from i 0) ∙ c.sized;
-      laid = ap (λ l. set l i (get_or from i 0)) c.laid ∙ laid_more to₀ 0 (take i from) i (get_or from i 0) place free ∙ rw (add-one, take-suc from i 0 h);
-    }
-
-pub copy_all : (from to₀ to : List ℕ) (i : ℕ) → Copying from to₀ to i → length from ≤ i → to ≡ laid_at to₀ 0 from
-copy_all from to₀ to i c h = c.laid ∙ ap (laid_at to₀ 0) (take_all i from h)
-
--- what the copier leaves in a part that starts at a place and runs to the end
-pub lay_part : (a from part : List ℕ) (at k : ℕ) → k ≡ length a - at → at + length from ≤ length a → part ≡ laid_at (take k (drop at a)) 0 from
-    → take at a ++ (part ++ drop k (drop at a)) ≡ laid_at a at from
-lay_part a from part at k e h p =
-    let long : length (drop at a) ≤ k = simp length-drop (omega arith) in
-    let whole : take k (drop at a) ≡ drop at a = take_all k (drop at a) long in
-    let none : drop k (drop at a) ≡ [] = drop_of_length-le (drop at a) long in
-    rw (none, append-nil, p, whole, zero-add, drop-drop)
+-- what is laid at the beginning of a lent part, said of the whole array
+pub lay_part : (a from part : List ℕ) (at k : ℕ) → length from ≤ k → at + k ≤ length a → part ≡ laid_at (take k (drop at a)) 0 from → take at a ++ (part ++ drop k (drop at a)) ≡ laid_at a at from
+lay_part a from part at k h inside p =
+    let fits : length from ≤ length (take k (drop at a)) = simp (length-take, length-drop) (omega arith) in
+    let rest : drop (length from) (take k (drop at a)) ++ drop k (drop at a) ≡ drop (at + length from) a =
+    sym (drop-append-le (length from) (take k (drop at a)) (drop k (drop at a)) fits) ∙ ap (drop (length from)) (take-append-drop k (drop at a)) ∙ drop-drop (length from) at a in
+    rw (p, zero-add, append_assoc, rest)
 
 module _ (key : ℕ → ℕ) where
   -- ---- t merge steps are laid at a place, i entries of them are the first run's

@@ -1,15 +1,26 @@
 -- Laws of the entries at one run's front that go before the head of the other: merge steps move them, one after the other.
-use mathlib.Core.Path.{◌≡◌, refl, sym, ap, ◌∙◌}
-use mathlib.Core.Bool.{Bool, true, false, not, cond}
+use mathlib.Core.Path.{◌≡◌, refl, ap, ◌∙◌}
+use mathlib.Core.Bool.{Bool, true, false, cond}
 use mathlib.Core.List.{List, [], ◌∷◌}
-use Prim.Native.Nat.{ℕ, zero, suc, ◌+◌, ◌-◌, ◌≤◌, ◌<◌}
+use Prim.Native.Nat.{ℕ, zero, suc, ◌-◌, ◌≤◌, ◌<◌}
 use native.Mathlib.Omega.{arith}
-use native.Mathlib.Numerals.{add-one}
-use native.Mathlib.Nat.{zero-add}
+use native.Mathlib.Numerals.{one-add}
 use borrow.Author.Tests.{not-true}
 use lib.Dec.{leb}
-use lib.ListN.{length, take, drop, get_or, drop_of_length-le}
+use lib.ListN.{length, take, drop, get_or}
 use lib.Seq.{drop-cons}
+use denote.Param.Members.{Mut}
+use denote.Ref.{Bor}
+use Rattle.std.specs.Prelude.{Option}
+use Rattle.std.specs.List.{prefix_len}
+use Rattle.std.specs.Fn.{CalledAt}
+use Rattle.std.specs.Iterator.{Drains}
+use Rattle.std.specs.declared.iter.TakeWhile.{TakeWhile}
+use Rattle.std.specs.Iterator.Adapters.{take_while_source, take_while_done, take_while_callee, take_while_steps}
+use Rattle.std.proofs.lemmas.Iterator.{YieldsList}
+use Rattle.std.proofs.lemmas.Iterator.Consumers.{count_from_yields_List}
+use Rattle.std.proofs.lemmas.Iterator.Search.{YieldsList-from_take_while}
+use Rattle.std.proofs.lemmas.List.Folds.{length-prefix_len}
 use Rattle.rules.specs.Merge.{merge_step, move, merged}
 use Rattle.runs.specs.Until.{until_empty}
 use Rattle.runs.specs.Leads.{goes_before, leading}
@@ -30,37 +41,18 @@ module _ (key : ℕ → ℕ) where
 
   -- ---- the look
 
-  pub before_first : (first t : Bool) (e head : ℕ) → first ≡ true → t ≡ leb (key e) (key head) → t ≡ goes_before key first e head
-  unfolding goes_before
-  before_first first t e head is c = c ∙ sym (ap (λ (b : Bool). goes_before key b e head) is)
+  prefix_leads : (first : Bool) (head : ℕ) (run : List ℕ) → prefix_len (λ e. goes_before key first e head) run ≡ leading key first head run
+  unfolding leading
+  prefix_leads first head [] = refl
+  prefix_leads first head (e ∷ run) = ap (λ n. cond (goes_before key first e head) n 0) (one-add (prefix_len (λ e. goes_before key first e head) run) ∙ ap suc (prefix_leads first head run))
 
-  pub before_second : (first t : Bool) (e head : ℕ) → first ≡ false → t ≡ leb (key head) (key e) → not t ≡ goes_before key first e head
-  unfolding goes_before
-  before_second first t e head is c = ap not c ∙ sym (ap (λ (b : Bool). goes_before key b e head) is)
-
-  -- n entries were looked through, and all of them go before the head
-  pub record Looking (first : Bool) (head : ℕ) (run : List ℕ) (n : ℕ) : Type 0 where
-    pub inside : n ≤ length run
-    pub so_far : n + leading key first head (drop n run) ≡ leading key first head run
-
-  pub look_start : (first : Bool) (head : ℕ) (run : List ℕ) → Looking first head run 0
-  look_start first head run = record { inside = omega arith; so_far = zero-add (leading key first head run) }
-
-  module _ {first : Bool} {head n : ℕ} {run : List ℕ} (l : Looking first head run n) where
-    pub look_more : n < length run → {e : ℕ} → goes_before key first e head ≡ true → e ≡ get_or run n 0 → Looking first head run (n + 1)
-    look_more h t is =
-        let here : leading key first head (drop n run) ≡ suc (leading key first head (drop (n + 1) run)) = rw (drop-cons run n 0 h, add-one) (lead_more first head (get_or run n 0) (drop (suc n) run) (rw (← is) t)) in
-        record { inside = omega arith; so_far = omega (arith, here, l.so_far) }
-
-    pub look_stops : n < length run → {e : ℕ} → goes_before key first e head ≡ false → e ≡ get_or run n 0 → n ≡ leading key first head run
-    look_stops h t is =
-        let here : leading key first head (drop n run) ≡ 0 = rw (drop-cons run n 0 h) (lead_stops first head (get_or run n 0) (drop (suc n) run) (rw (← is) t)) in
-        omega (arith, here, l.so_far)
-
-    pub look_ends : length run ≤ n → n ≡ leading key first head run
-    look_ends h =
-        let here : leading key first head (drop n run) ≡ 0 = rw (drop_of_length-le run h) (lead_none first head) in
-        omega (arith, here, l.so_far)
+  -- what is counted of the entries that an iterator gives while they go before the head
+  pub lead_counted : {S A F : Type 0} {steps : S → Option A → S → Type 0} {v : A → ℕ} {s : TakeWhile S F} {f : F} (g : Mut F (Bor A × Unit {0}) Bool) (first : Bool) (head : ℕ) (run : List ℕ) {r : ℕ}
+      → ((xs : List A) × Drains (take_while_steps steps g) s xs × (r ≡ length xs)) → YieldsList steps v (take_while_source s) run → take_while_callee s ≡ f → take_while_done s ≡ false
+      → ((x : A) (b : Bool) (q : F) → CalledAt g f x b q → (q ≡ f) × (b ≡ goes_before key first (v x) head)) → r ≡ leading key first head run
+  lead_counted {s = s} g first head run {r} drained source callee more calls =
+      let test = λ (e : ℕ). goes_before key first e head in
+      count_from_yields_List s r drained (YieldsList-from_take_while g test source callee more calls) ∙ length-prefix_len test run ∙ prefix_leads first head run
 
   -- no more than there are, and no more of a front than of the whole
   pub lead_inside : (first : Bool) (head n : ℕ) (run : List ℕ) → n ≤ length run → (leading key first head (take n run) ≤ n) × (leading key first head (take n run) ≤ leading key first head run)

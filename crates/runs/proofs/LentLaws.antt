@@ -1,12 +1,12 @@
 -- Laws of merging two lent runs into a third: in blocks, then head by head.
-use mathlib.Core.Path.{◌≡◌, refl, sym, ap, ◌∙◌}
+use mathlib.Core.Path.{◌≡◌, refl, ap, ◌∙◌}
 use mathlib.Core.Bool.{true, false}
 use mathlib.Core.List.{List, ◌++◌}
 use mathlib.Core.Logic.{◌≢◌, ◌⊎◌, inl, inr, ⊎_elim}
 use Prim.Native.Nat.{ℕ, ◌+◌, ◌-◌, ◌≤◌, ◌<◌, min}
 use native.Mathlib.Omega.{arith}
 use native.Mathlib.Decide.{dec_le}
-use native.Mathlib.Nat.{zero-add, add-zero}
+use native.Mathlib.Nat.{add-zero}
 use lib.Dec.{leb}
 use lib.ListN.{length, take, drop, get_or, set, length-drop}
 use lib.Seq.{get_or-drop}
@@ -22,37 +22,41 @@ use Rattle.runs.proofs.PromiseLaws.{merges_long}
 module _ (key : ℕ → ℕ) where
   -- ---- head by head
 
-  -- both runs have entries, and x and y are their heads
-  pub record AtBoth (xs ys out₀ out : List ℕ) (i j x y : ℕ) : Type 0 where
+  -- both runs have entries, and x and y are their heads; k entries of out are laid
+  pub record AtBoth (xs ys out₀ out : List ℕ) (k i j x y : ℕ) : Type 0 where
     pub run : Running key xs ys out₀ out 0 (length out₀) (i + j) i
+    pub laid : k ≡ i + j
     pub i_has : i < length xs
     pub j_has : j < length ys
     pub x_is : x ≡ get_or xs i 0
     pub y_is : y ≡ get_or ys j 0
 
-  pub both_start : (xs ys out : List ℕ) → 0 < length xs → 0 < length ys → AtBoth xs ys out out 0 0 (get_or xs 0 0) (get_or ys 0 0)
-  both_start xs ys out hx hy = record { run = running_start key xs ys out 0 (length out) (omega arith); i_has = hx; j_has = hy; x_is = refl; y_is = refl }
+  pub both_start : (xs ys out : List ℕ) → 0 < length xs → 0 < length ys → AtBoth xs ys out out 0 0 0 (get_or xs 0 0) (get_or ys 0 0)
+  both_start xs ys out hx hy = record { run = running_start key xs ys out 0 (length out) (omega arith); laid = refl; i_has = hx; j_has = hy; x_is = refl; y_is = refl }
 
-  module _ {xs ys out₀ out : List ℕ} {i j x y : ℕ} (h : AtBoth xs ys out₀ out i j x y) where
+  pub both_at : {xs ys out₀ out out' : List ℕ} {k i j x y i' j' x' y' : ℕ} → out ≡ out' → i ≡ i' → j ≡ j' → x ≡ x' → y ≡ y' → AtBoth xs ys out₀ out' k i' j' x' y' → AtBoth xs ys out₀ out k i j x y
+  both_at eo ei ej ex ey h = rw (eo, ei, ej, ex, ey) h
+
+  module _ {xs ys out₀ out : List ℕ} {k i j x y : ℕ} (h : AtBoth xs ys out₀ out k i j x y) where
     at_j : i + j - i ≡ j
     at_j = omega arith
 
-    module _ (free : i + j < length out₀) where
-      pub both_first : leb (key x) (key y) ≡ true → Running key xs ys out₀ (set out (i + j) x) 0 (length out₀) (i + 1 + j) (i + 1)
+    module _ (free : k < length out₀) where
+      pub both_first : leb (key x) (key y) ≡ true → Running key xs ys out₀ (set out k x) 0 (length out₀) (i + 1 + j) (i + 1)
       both_first t =
-          run_first key h.run free h.i_has (omega (arith, h.j_has)) (i + j) (i + 1 + j) (i + 1) x (sym (zero-add (i + j))) free (omega arith) refl h.x_is
+          run_first key h.run (omega (arith, h.laid)) h.i_has (omega (arith, h.j_has)) k (i + 1 + j) (i + 1) x (omega (arith, h.laid)) free (omega arith) refl h.x_is
           (rw (at_j, ← h.x_is, ← h.y_is) t)
 
-      pub both_second : leb (key x) (key y) ≡ false → Running key xs ys out₀ (set out (i + j) y) 0 (length out₀) (i + (j + 1)) i
+      pub both_second : leb (key x) (key y) ≡ false → Running key xs ys out₀ (set out k y) 0 (length out₀) (i + (j + 1)) i
       both_second t =
-          run_second key h.run free h.i_has (omega (arith, h.j_has)) (i + j) (i + (j + 1)) y (sym (zero-add (i + j))) free (omega arith) (rw at_j h.y_is)
+          run_second key h.run (omega (arith, h.laid)) h.i_has (omega (arith, h.j_has)) k (i + (j + 1)) y (omega (arith, h.laid)) free (omega arith) (rw at_j h.y_is)
           (rw (at_j, ← h.x_is, ← h.y_is) t)
 
-      pub next_first : leb (key x) (key y) ≡ true → i + 1 ≢ length xs → AtBoth xs ys out₀ (set out (i + j) x) (i + 1) j (get_or xs (i + 1) 0) y
-      next_first t other = record { run = both_first t; i_has = omega (arith, h.i_has); j_has = h.j_has; x_is = refl; y_is = h.y_is }
+      pub next_first : leb (key x) (key y) ≡ true → i + 1 ≢ length xs → AtBoth xs ys out₀ (set out k x) (k + 1) (i + 1) j (get_or xs (i + 1) 0) y
+      next_first t other = record { run = both_first t; laid = omega (arith, h.laid); i_has = omega (arith, h.i_has); j_has = h.j_has; x_is = refl; y_is = h.y_is }
 
-      pub next_second : leb (key x) (key y) ≡ false → j + 1 ≢ length ys → AtBoth xs ys out₀ (set out (i + j) y) i (j + 1) x (get_or ys (j + 1) 0)
-      next_second t other = record { run = both_second t; i_has = h.i_has; j_has = omega (arith, h.j_has); x_is = h.x_is; y_is = refl }
+      pub next_second : leb (key x) (key y) ≡ false → j + 1 ≢ length ys → AtBoth xs ys out₀ (set out k y) (k + 1) i (j + 1) x (get_or ys (j + 1) 0)
+      next_second t other = record { run = both_second t; laid = omega (arith, h.laid); i_has = h.i_has; j_has = omega (arith, h.j_has); x_is = h.x_is; y_is = refl }
 
   -- a run has ended, or out is full
   pub record Over (xs ys out₀ out : List ℕ) (t i : ℕ) : Type 0 where
@@ -144,4 +148,4 @@ module _ (key : ℕ → ℕ) where
       let q : Running key xs ys out (laid_at a (i + j) block) 0 (length out) (i + j + moved) (i + first) =
       run_block key i j r moved first (moved - first) (i + j) (i + j + moved) (i + first) block (omega (arith, m.of_both)) (omega arith) refl refl
       (rw (m.one, m.two)) (omega (arith, made)) (omega (arith, m.of_first, l.of_first)) (omega (arith, m.of_second, l.of_second)) (omega arith) in
-      rw (lay_part a block part (i + j) k ek (omega (arith, m.within, l.sized, r.within)) m.laid) (merges key q (omega (arith, made, count)))
+      rw (lay_part a block part (i + j) k (omega (arith, long, m.within, l.sized, r.within)) (omega (arith, l.sized, r.within)) m.laid) (merges key q (omega (arith, made, count)))

@@ -4,6 +4,7 @@ pub mod LeadLaws
 pub mod LayingLaws
 pub mod RunningLaws
 pub mod LentLaws
+pub mod RangeLaws
 pub mod ArrayLaws
 pub mod PromiseLaws
 pub mod EndLaws

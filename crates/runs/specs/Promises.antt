@@ -1,5 +1,5 @@
 -- What the functions ask and promise. Runs and arrays are lists of words; a primed list is the list afterwards.
-use Rattle.std.specs.Prelude.{◌≡◌, ℕ, ◌+◌, ◌-◌, ◌*◌, ◌≤◌, ◌<◌, List, ◌++◌, length, take, drop}
+use Rattle.std.specs.Prelude.{◌≡◌, ◌⊎◌, ℕ, ◌+◌, ◌-◌, ◌*◌, ◌≤◌, ◌<◌, List, ◌++◌, length, take, drop}
 use Rattle.std.specs.Borrow.{Bor}
 use Rattle.rules.specs.Merge.{merged}
 use Rattle.runs.specs.Until.{pick, until_empty, join_until_end}
@@ -31,11 +31,11 @@ pub record Stretches (a : List ℕ) (out one one_end two two_end room : ℕ) : T
   pub one_apart : Apart one one_end out (out + room)
   pub two_apart : Apart two two_end out (out + room)
 
--- the same, and both inputs have entries
-pub record Heads (a : List ℕ) (out one one_end two two_end room : ℕ) : Type 0 where
-  pub stretches : Stretches a out one one_end two two_end room
-  pub one_has : one < one_end
-  pub two_has : two < two_end
+-- a run inside an array, before or behind a lent part of it: so many words stand before that part, in it and behind it
+pub record Beside (before lent behind from end : ℕ) : Type 0 where
+  pub starts : from ≤ end
+  pub inside : end ≤ before + (lent + behind)
+  pub apart : (end ≤ before) ⊎ (before + lent ≤ from)
 
 -- so many entries of one stretch, and room for them that it does not meet
 pub record Moves (a : List ℕ) (out from count : ℕ) : Type 0 where

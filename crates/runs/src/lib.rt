@@ -1,70 +1,48 @@
 // Runs: merging, joining and laying of words that are lent. For any words, sorted or not.
 #![tactic(auto)]
 
-ghost use Rattle.std.specs.Prelude.{◌≡◌, ◌+◌, ◌≤◌, ◌<◌, min, leb, length};
+ghost use Rattle.std.specs.Prelude.{◌≡◌, ℕ, List, ◌++◌, ◌+◌, ◌-◌, ◌≤◌, ◌<◌, leb, length};
 ghost use Rattle.rules.specs.Entries.{key_by};
 ghost use Rattle.runs.specs.Until.{until_end};
-ghost use Rattle.runs.specs.Leads.{goes_before, leading};
-ghost use Rattle.runs.specs.Promises.{laid_at, stretch, Heads, Joins, Merges, Moves, Parts, Stretches};
+ghost use Rattle.runs.specs.Promises.{laid_at, stretch, Beside, Joins, Merges, Moves, Parts, Stretches};
 
 use rules::Rule;
+use std::ops::Range;
 
 // Whether x moves before y where x is the first input's: the one place that knows the order.
+#[tactic(auto, unfolding(rules::specs::Entries::key_by))]
 pub fn goes_first(rule: Rule, x: u64, y: u64) -> bool
     ensures { result ≡ leb (key_by rule x) (key_by rule y) }
 {
     x <= y
 }
 
-// Whether an entry goes before the other run's head. At equality the first run's does.
-fn goes_before(rule: Rule, first: bool, e: u64, head: u64) -> bool
-    ensures { result ≡ goes_before (key_by rule) first e head }
-{
-    if first {
-        return goes_first(rule, e, head);
-    }
-    !goes_first(rule, head, e)
+// How far merge steps went: the entries that were moved in all, and those of the first input.
+#[derive(Clone, Copy)]
+pub struct Run {
+    pub moved: usize,
+    pub first: usize,
 }
 
-// How many entries at a run's front go before the other run's head: the look stops at the first that does not.
-fn lead(rule: Rule, run: &[u64], head: u64, first: bool) -> usize
-    ensures { result ≡ leading (key_by rule) first head run.now }
-{
-    let mut ahead: usize = 0;
-    while ahead < run.len() {
-        if !goes_before(rule, first, run[ahead], head) {
-            break;
-        }
-        ahead += 1;
-    }
-    ahead
-}
-
-fn shorter(x: usize, y: usize) -> usize
-    ensures { result ≡ min x y }
-{
-    if x < y { x } else { y }
-}
-
-// Merge steps of two lent runs that have entries, until one ends or out is full. The heads stay in locals.
-fn merge_on(rule: Rule, xs: &[u64], ys: &[u64], out: &mut [u64]) -> Run
+// Merge steps of two runs that have entries, until one ends or out is full. The heads stay in locals: a step reads one word and writes one.
+fn merge_heads(rule: Rule, xs: &[u64], ys: &[u64], out: &mut [u64]) -> Run
     requires { (0 < length xs.now) × (0 < length ys.now) }
     ensures { Merges (key_by rule) xs.now ys.now out.old out.new 0 (length out.old) result.moved result.first }
 {
-    let mut i: usize = 0;
-    let mut j: usize = 0;
+    let mut i = 0;
+    let mut j = 0;
     let mut x = xs[0];
     let mut y = ys[0];
-    while i + j < out.len() {
+    for slot in out.iter_mut() {
         if goes_first(rule, x, y) {
-            out[i + j] = x;
+            *slot = x;
             i += 1;
             if i == xs.len() {
                 break;
             }
             x = xs[i];
         } else {
-            out[i + j] = y;
+            *slot = y;
             j += 1;
             if j == ys.len() {
                 break;
@@ -72,34 +50,43 @@ fn merge_on(rule: Rule, xs: &[u64], ys: &[u64], out: &mut [u64]) -> Run
             y = ys[j];
         }
     }
-    Run::of(i + j, i)
+    Run {
+        moved: i + j,
+        first: i,
+    }
 }
 
 // Merge steps of two lent runs, until one ends or out is full. What of the first goes before the second's head is laid as one block, then what of the second goes before the first's next entry.
 fn merge_until(rule: Rule, xs: &[u64], ys: &[u64], out: &mut [u64]) -> Run
     ensures { Merges (key_by rule) xs.now ys.now out.old out.new 0 (length out.old) result.moved result.first }
 {
-    if xs.len() == 0 {
-        return Run::of(0, 0);
+    if xs.is_empty() || ys.is_empty() {
+        return Run { moved: 0, first: 0 };
     }
-    if ys.len() == 0 {
-        return Run::of(0, 0);
-    }
-    let n = shorter(xs.len(), out.len());
-    let i = lead(rule, &xs[..n], ys[0], true);
-    copy(&xs[..i], out);
+    let n = xs.len().min(out.len());
+    let i = xs[..n]
+        .iter()
+        .take_while(|x| goes_first(rule, **x, ys[0]))
+        .count();
+    lay(out, 0, &xs[..i]);
     if i == n {
-        return Run::of(i, i);
+        return Run { moved: i, first: i };
     }
-    let m = shorter(ys.len(), out.len() - i);
-    let j = lead(rule, &ys[..m], xs[i], false);
+    let m = ys.len().min(out.len() - i);
+    let j = ys[..m]
+        .iter()
+        .take_while(|y| !goes_first(rule, xs[i], **y))
+        .count();
     lay(out, i, &ys[..j]);
     let t = i + j;
     if j == m {
-        return Run::of(t, i);
+        return Run { moved: t, first: i };
     }
-    let more = merge_on(rule, &xs[i..], &ys[j..], &mut out[t..]);
-    Run::of(t + more.moved, i + more.first)
+    let more = merge_heads(rule, &xs[i..], &ys[j..], &mut out[t..]);
+    Run {
+        moved: t + more.moved,
+        first: i + more.first,
+    }
 }
 
 // Merges as many entries as out has room for, and says how many are the first run's.
@@ -108,12 +95,10 @@ pub fn part(rule: Rule, xs: &[u64], ys: &[u64], out: &mut [u64]) -> usize
     ensures { Parts (key_by rule) xs.now ys.now out.old out.new result }
 {
     // Many buffers of a path are empty.
-    if out.len() == 0 {
+    if out.is_empty() {
         return 0;
     }
-    let run = merge_until(rule, xs, ys, out);
-    let moved = run.moved;
-    let first = run.first;
+    let Run { moved, first } = merge_until(rule, xs, ys, out);
     let left = out.len() - moved;
     if left == 0 {
         return first;
@@ -124,8 +109,7 @@ pub fn part(rule: Rule, xs: &[u64], ys: &[u64], out: &mut [u64]) -> usize
         return end;
     }
     let second = moved - first;
-    let end = second + left;
-    lay(out, moved, &ys[second..end]);
+    lay(out, moved, &ys[second..second + left]);
     first
 }
 
@@ -134,112 +118,58 @@ pub fn join<'a>(rule: Rule, xs: &'a [u64], ys: &'a [u64], out: &mut [u64]) -> &'
     requires { until_end (key_by rule) xs.now ys.now ≤ length out.old }
     ensures { Joins (key_by rule) xs.entry ys.entry out.old out.new result }
 {
-    let run = merge_until(rule, xs, ys, out);
-    let first = run.first;
-    let second = run.moved - first;
+    let Run { moved, first } = merge_until(rule, xs, ys, out);
+    let second = moved - first;
     if second < ys.len() {
         return &ys[second..];
     }
     &xs[first..]
 }
 
-// Copies a run to the beginning of a lent part.
-pub fn copy(from: &[u64], to: &mut [u64])
-    requires { length from.now ≤ length to.old }
-    ensures { to.new ≡ laid_at to.old 0 from.now }
-{
-    let mut n: usize = 0;
-    while n < from.len() {
-        to[n] = from[n];
-        n += 1;
-    }
-}
-
-// Lays a run into the array's own stretch that starts at a place.
+// Lays a run into the array's own stretch that starts at a place. A loop: std's copy misses the aim of docs/SPEED.md for a join of 1,080 entries that is one block.
+#[tactic(auto, using(std::proofs::lemmas::List::Edits::paste_more, std::proofs::lemmas::List::Edits::paste_all))]
 pub fn lay(array: &mut [u64], at: usize, from: &[u64])
     requires { at + length from.now ≤ length array.old }
     ensures { array.new ≡ laid_at array.old at from.now }
 {
-    copy(from, &mut array[at..]);
-}
-
-// How far merge steps went: the entries that were moved in all, and those of the first input.
-#[derive(Clone, Copy)]
-pub struct Run {
-    pub moved: usize,
-    pub first: usize,
-}
-
-impl Run {
-    pub fn of(moved: usize, first: usize) -> Self
-        ensures { (result.moved ≡ moved) × (result.first ≡ first) }
-    {
-        Self { moved, first }
+    for (i, word) in from.iter().enumerate() {
+        array[at + i] = *word;
     }
 }
 
-// Merge steps of two inputs that have entries. The heads stay in locals: a step reads one word and writes one.
-fn merge_heads(
-    rule: Rule,
-    a: &mut [u64],
-    out: usize,
-    one: usize,
-    one_end: usize,
-    two: usize,
-    two_end: usize,
-    room: usize,
-) -> Run
-    requires { Heads a.old out one one_end two two_end room }
-    ensures { Merges (key_by rule) (stretch one one_end a.old) (stretch two two_end a.old) a.old a.new out room result.moved result.first }
+// A run of an array of which a stretch is lent elsewhere: what stands before that stretch, how long it is, and what stands behind it. The run does not meet it.
+fn beside<'a>(before: &'a [u64], lent: usize, behind: &'a [u64], run: Range<usize>) -> &'a [u64]
+    requires { Beside (length before.now) lent (length behind.now) run.start run.end }
+    ensures long { length result.now ≡ run.end - run.start }
+    ensures words { (there : List ℕ) → length there ≡ lent → result.now ≡ stretch run.start run.end (before.now ++ (there ++ behind.now)) }
 {
-    let mut k = out;
-    let mut i = one;
-    let mut j = two;
-    let mut x = a[i];
-    let mut y = a[j];
-    while k < out + room {
-        if goes_first(rule, x, y) {
-            a[k] = x;
-            k += 1;
-            i += 1;
-            if i == one_end {
-                break;
-            }
-            x = a[i];
-        } else {
-            a[k] = y;
-            k += 1;
-            j += 1;
-            if j == two_end {
-                break;
-            }
-            y = a[j];
-        }
+    if run.end <= before.len() {
+        return &before[run];
     }
-    Run::of(k - out, i - one)
+    let skipped = before.len() + lent;
+    &behind[run.start - skipped..run.end - skipped]
 }
 
-// Merge steps inside one array, until an input is empty or the room is used up.
+// Merge steps inside one array, until an input is empty or the room at `out` is used up.
 pub fn merge_run(
     rule: Rule,
     a: &mut [u64],
-    out: usize,
-    one: usize,
-    one_end: usize,
-    two: usize,
-    two_end: usize,
-    room: usize,
+    out: Range<usize>,
+    one: Range<usize>,
+    two: Range<usize>,
 ) -> Run
-    requires { Stretches a.old out one one_end two two_end room }
-    ensures { Merges (key_by rule) (stretch one one_end a.old) (stretch two two_end a.old) a.old a.new out room result.moved result.first }
+    requires { Stretches a.old out.start one.start one.end two.start two.end (out.end - out.start) }
+    ensures { Merges (key_by rule) (stretch one.start one.end a.old) (stretch two.start two.end a.old) a.old a.new out.start (out.end - out.start) result.moved result.first }
 {
-    if one == one_end {
-        return Run::of(0, 0);
+    if one.is_empty() || two.is_empty() || out.is_empty() {
+        return Run { moved: 0, first: 0 };
     }
-    if two == two_end {
-        return Run::of(0, 0);
-    }
-    merge_heads(rule, a, out, one, one_end, two, two_end, room)
+    let room = out.end - out.start;
+    let (before, rest) = a.split_at_mut(out.start);
+    let (free, behind) = rest.split_at_mut(room);
+    let xs = beside(before, room, behind, one);
+    let ys = beside(before, room, behind, two);
+    merge_heads(rule, xs, ys, free)
 }
 
 // Merge steps inside one array where only one input has entries: so many of them move.
@@ -247,9 +177,5 @@ pub fn move_run(a: &mut [u64], out: usize, from: usize, count: usize)
     requires { Moves a.old out from count }
     ensures { a.new ≡ laid_at a.old out (stretch from (from + count) a.old) }
 {
-    let mut moved: usize = 0;
-    while moved < count {
-        a[out + moved] = a[from + moved];
-        moved += 1;
-    }
+    a.copy_within(from..from + count, out);
 }

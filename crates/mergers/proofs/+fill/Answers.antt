@@ -1,6 +1,6 @@
 -- `fill` calls itself on its inputs' mergers: what is known at the places of its code.
 use Prim.Native.Nat.{ℕ, ◌<◌, ◌≤◌, ◌+◌, ◌-◌}
-use mathlib.Core.Path.{sym, ap, ◌∙◌}
+use mathlib.Core.Path.{◌≡◌, refl, sym, ap, ◌∙◌}
 use mathlib.Core.List.{List}
 use native.Mathlib.Omega.{arith}
 use Rattle.rules.specs.Entries.{key_by}
@@ -24,7 +24,7 @@ module _ (t : ℕ) where
   one_done c = c.before.before
 
   abbrev both_done : After-turn_steps-m t → Joined-wants_in-2 t
-  both_done c = c.before.before.before.before.before.before
+  both_done c = c.before.before.before
 
   abbrev one : After-settle t → Tree
   one c = subtree c.args.last c.args.i (first_input c.args.j)
@@ -81,12 +81,13 @@ module _ (t : ℕ) where
 
   -- and the merge steps of the turn have been made
   next_at : (c : After-turn_steps-m t) → let s = settled (one_done (both_done c)) in let m = c.turn_steps-m.result in
-      filling s c.turn_steps-m.new.a (c.loop-filled.filled + m) (c.loop-filled.steps + c.if-wants_in.x + c.if-wants_in-2.y + m) × (m ≤ c.merger_of-v.result.room - c.loop-filled.filled)
+      filling s c.turn_steps-m.new.a (c.loop-filled.filled + m) (c.loop-filled.steps + (c.if-wants_in.x + c.if-wants_in-2.y + m)) × (m ≤ c.merger_of-v.result.room - c.loop-filled.filled)
   next_at c =
       let g = began_at (settled (one_done (both_done c))) in
       let b = both_at (both_done c) in
       let e = c.turn_steps-m.ensures in
-      (next _ g b.0 b.1 b.2 _ e.value e.ran, next_within _ g b.0 b.1 b.2 _ e.value e.ran)
+      let in_all : c.loop-filled.steps + (c.if-wants_in.x + c.if-wants_in-2.y + c.turn_steps-m.result) ≡ c.loop-filled.steps + c.if-wants_in.x + c.if-wants_in-2.y + c.turn_steps-m.result = omega arith in
+      (rw in_all (next _ g b.0 b.1 b.2 _ e.value e.ran), next_within _ g b.0 b.1 b.2 _ e.value e.ran)
 
 pub returns-then-k-j : goal.returns-then-k-j
 returns-then-k-j t c = leaf_did _ _ _ _ _ c.requires (omega (arith, c.k.ensures ∙ ap k c.at.ensures, c.if-k-j.true))
@@ -131,7 +132,7 @@ overflow_add-steps t c =
 pub overflow_add-steps-in-loop-filled : goal.overflow_add-steps-in-loop-filled
 overflow_add-steps-in-loop-filled t c =
     let at = goal.at.overflow_add-steps-in-loop-filled t c in
-    omega (arith, steps_small _ (began_at t at.After-settle) (both_at t at.Joined-wants_in-2).0)
+    omega (arith, steps_small _ (began_at t at.After-settle) (next_at t at.After-turn_steps-m).0)
 
 pub overflow_add-steps-in-loop-filled-2 : goal.overflow_add-steps-in-loop-filled-2
 overflow_add-steps-in-loop-filled-2 t c =
@@ -150,14 +151,16 @@ returns-then-filled-eq0 t c =
     let at = goal.at.returns-then-filled-eq0 t c in
     let b = both_at t at.Joined-wants_in-2 in
     let e = c.turn_steps-m.ensures in
-    ended_none _ (began_at t at.After-settle) b.0 b.1 b.2 _ e.value e.ran c.if-m-eq0.true b.3 c.if-filled-eq0.true _ c.exhaust.ensures.now
+    did_as refl (omega arith)
+    (ended_none _ (began_at t at.After-settle) b.0 b.1 b.2 _ e.value e.ran c.if-m-eq0.true b.3 c.if-filled-eq0.true _ c.exhaust.ensures.now)
 
 pub returns-else-filled-eq0 : goal.returns-else-filled-eq0
 returns-else-filled-eq0 t c =
     let at = goal.at.returns-else-filled-eq0 t c in
     let b = both_at t at.Joined-wants_in-2 in
     let e = c.turn_steps-m.ensures in
-    ended_some _ (began_at t at.After-settle) b.0 b.1 b.2 _ e.value e.ran c.if-m-eq0.true b.3
+    did_as refl (omega arith)
+    (ended_some _ (began_at t at.After-settle) b.0 b.1 b.2 _ e.value e.ran c.if-m-eq0.true b.3)
 
 pub overflow_add-filled : goal.overflow_add-filled
 overflow_add-filled t c =
