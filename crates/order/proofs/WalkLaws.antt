@@ -1,5 +1,5 @@
 -- How the order rule goes down the tree: what decides at link i's buffer j, and what its inputs are asked.
-use mathlib.Core.Path.{◌≡◌, refl, sym, ◌∙◌}
+use mathlib.Core.Path.{◌≡◌, refl, sym, ◌∙◌, ap}
 use mathlib.Core.Bool.{Bool, true, false}
 use mathlib.Core.List.{List, []}
 use Prim.Native.Nat.{ℕ, zero, suc, ◌+◌, ◌-◌, ◌≤◌, ◌<◌}
@@ -160,14 +160,6 @@ module _ {key : ℕ → ℕ} {ws : List ℕ} {links i j n at low : ℕ} (g : Onw
 
 -- ---- the whole queue
 
-and-false : (b : Bool) → b and false ≡ false
-and-false true = refl
-and-false false = refl
-
-and_true : (b : Bool) → b and true ≡ b
-and_true true = refl
-and_true false = refl
-
 module _ (ws : List ℕ) (array : Inside ws) where
   -- A(1), at the root
   pub root_can : (links : ℕ) → links ≡ links_in ws → CanWalk ws links 1 0
@@ -194,10 +186,10 @@ module _ (ws : List ℕ) (array : Inside ws) where
     decided_by_both : in_order key (tree_of (links_in ws)) (buffers_of ws) ≡ ascends key (key 0) (buffer_of ws 0) and ordered key (subtree (links_in ws) 1 0) (key 0) (buffers_of ws)
     decided_by_both = rw (least, whole_tree) (in_both ∙ rw (buffers_at ws 0 (omega (arith, some array.link))))
 
-    -- where the tree is broken, I does not matter; where it is not, I decides
-    pub broken_in_tree : ordered key (subtree (links_in ws) 1 0) (key 0) (buffers_of ws) ≡ false → false ≡ in_order key (tree_of (links_in ws)) (buffers_of ws)
-    broken_in_tree t = sym (decided_by_both ∙ rw t (and-false (ascends key (key 0) (buffer_of ws 0))))
+    -- where I is broken, the tree does not matter; where it is not, the tree decides
+    pub broken_outside : ascends key (key 0) (buffer_of ws 0) ≡ false → false ≡ in_order key (tree_of (links_in ws)) (buffers_of ws)
+    broken_outside t = sym (decided_by_both ∙ rw t)
 
-    pub left_to_insertion : ordered key (subtree (links_in ws) 1 0) (key 0) (buffers_of ws) ≡ true
-        → ascends key (key 0) (buffer_of ws 0) ≡ in_order key (tree_of (links_in ws)) (buffers_of ws)
-    left_to_insertion t = sym (decided_by_both ∙ rw t (and_true (ascends key (key 0) (buffer_of ws 0))))
+    pub left_to_tree : ascends key (key 0) (buffer_of ws 0) ≡ true → (links : ℕ) → links ≡ links_in ws
+        → ordered key (subtree links 1 0) (key 0) (buffers_of ws) ≡ in_order key (tree_of (links_in ws)) (buffers_of ws)
+    left_to_tree t links is = ap (λ l. ordered key (subtree l 1 0) (key 0) (buffers_of ws)) is ∙ sym (decided_by_both ∙ rw t)

@@ -19,17 +19,12 @@ pub fn ascends(rule: Rule, a: &[u64], place: Place, low: u64) -> bool
     requires { At a.now place.number place.at }
     ensures { result ≡ ascends (key_by rule) (key_by rule low) (buffer_of a.now place.number) }
 {
-    let head = place.at + buffers::start_place(a, place.number);
-    let end = head + buffers::count(a, place.number);
     let mut last = low;
-    let mut p = head;
-    while p < end {
-        let e = a[p];
-        if !runs::goes_first(rule, last, e) {
+    for e in buffers::entries(a, place.number, place.at) {
+        if !runs::goes_first(rule, last, *e) {
             return false;
         }
-        last = e;
-        p += 1;
+        last = *e;
     }
     true
 }
@@ -39,12 +34,10 @@ pub fn last_entry(a: &[u64], place: Place, low: u64) -> u64
     requires { At a.now place.number place.at }
     ensures { result ≡ last_entry low (buffer_of a.now place.number) }
 {
-    let count = buffers::count(a, place.number);
-    if count == 0 {
-        return low;
-    }
-    let head = place.at + buffers::start_place(a, place.number);
-    a[head + count - 1]
+    buffers::entries(a, place.number, place.at)
+        .last()
+        .copied()
+        .unwrap_or(low)
 }
 
 // Whether link i's buffer j and all below it keep the order rule; `low` is the last entry nearer the root.
@@ -63,17 +56,15 @@ pub fn ordered(rule: Rule, a: &[u64], links: usize, i: usize, j: usize, low: u64
         return true;
     }
     let last = last_entry(a, place, low);
-    if !ordered(rule, a, links, i, mergers::first_input(j), last) {
-        return false;
-    }
-    ordered(
-        rule,
-        a,
-        links,
-        mergers::second_link(i, j),
-        mergers::second_input(j),
-        last,
-    )
+    ordered(rule, a, links, i, mergers::first_input(j), last)
+        && ordered(
+            rule,
+            a,
+            links,
+            mergers::second_link(i, j),
+            mergers::second_input(j),
+            last,
+        )
 }
 
 // Whether the entries keep the order rule. No key is below that of 0, so that I and A(1) ascend from 0 on.
@@ -81,14 +72,7 @@ pub fn in_order(rule: Rule, a: &[u64]) -> bool
     requires { Inside a.now }
     ensures { result ≡ in_order (key_by rule) (tree_of (links_in a.now)) (buffers_of a.now) }
 {
-    let insertion = Place {
-        number: 0,
-        at: Link::BOOK,
-    };
-    let outside = ascends(rule, a, insertion, 0);
+    let outside = ascends(rule, a, Place::INSERTION, 0);
     let links = buffers::counters::links(a) as usize;
-    if !ordered(rule, a, links, 1, 0, 0) {
-        return false;
-    }
-    outside
+    outside && ordered(rule, a, links, 1, 0, 0)
 }

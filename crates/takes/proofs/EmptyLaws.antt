@@ -1,12 +1,11 @@
 -- Emptying by repeated takes: what the loop keeps.
 use Prim.Native.Nat.{ℕ, zero, suc, ◌+◌, ◌*◌, ◌≤◌, ◌<◌}
 use mathlib.Core.Path.{◌≡◌, refl, sym, ap, ◌∙◌, subst}
-use mathlib.Core.Bool.{Bool, true, false}
 use mathlib.Core.List.{List, [], ◌∷◌, ◌++◌, append_assoc, append-nil}
 use native.Mathlib.Omega.{arith}
 use native.Mathlib.Nat.{add_assoc, add-zero, zero-add}
 use native.Mathlib.Numerals.{add-one}
-use lib.ListN.{length, get_or, set, length-append}
+use lib.ListN.{length, get_or, set, take, drop, length-append}
 use Rattle.rules.specs.Links.{first, buffer_count, book_words, LinkNumber}
 use Rattle.rules.specs.Tree.{Buffers, Tree, links_from, tree_of, entries}
 use Rattle.rules.specs.Fill.{Filled, untouched, fill}
@@ -28,11 +27,13 @@ use Rattle.buffers.proofs.SlotLaws.{few}
 use Rattle.buffers.proofs.ArrayLaws.{has, buffer_length, buffers_at, buffers_length, kept_links, kept_none, kept_then}
 use Rattle.mergers.proofs.BoundLaws.{steps_few}
 use Rattle.runs.specs.Promises.{laid_at}
-use Rattle.runs.proofs.LayingLaws.{laid_none, laid_more, length_laid}
-use Rattle.takes.specs.Heads.{CanTake, Took, one_if}
+use Rattle.runs.proofs.LayingLaws.{laid_none, laid_more, laid_whole, length_laid}
+use Rattle.takes.specs.Heads.{CanTake, Took}
+use Rattle.std.specs.Prelude.{Option, Some, None, IsSome, option_to_list}
 use Rattle.takes.proofs.SumLaws.{held_more}
 use Rattle.takes.proofs.ReadyLaws.{tree_is}
 use Rattle.takes.specs.Emptying.{TookAll}
+use Rattle.std.proofs.lemmas.List.{length-take-le}
 
 -- ---- one take more, at the end
 
@@ -120,9 +121,9 @@ empty_start ws last work total h e =
       few = omega arith;
     }
 
-was_found : (found : Bool) (entry : ℕ) (out : List ℕ) → one_if found entry ≡ out → length out ≡ 1 → out ≡ entry ∷ []
-was_found true entry out e l = sym e
-was_found false entry out e l = absurd (omega (arith, ap length e))
+was_found : (o : Option ℕ) (out : List ℕ) → option_to_list o ≡ out → length out ≡ 1 → IsSome o
+was_found (Some entry) out e l = refl
+was_found None out e l = absurd (omega (arith, ap length e))
 
 pub work_long : {key : ℕ → ℕ} (ws₀ : List ℕ) (last : ℕ) (work₀ ws work : List ℕ) (total n steps : ℕ) → Emptying key ws₀ last work₀ ws work total n steps → total ≤ length work₀ → length work ≡ length work₀
 work_long {key} ws₀ last work₀ ws work total n steps h room =
@@ -139,12 +140,17 @@ module _ {key : ℕ → ℕ} (ws₀ : List ℕ) (last : ℕ) (work₀ ws work : 
   pub place_in : n < length work
   place_in = omega (arith, work_long ws₀ last work₀ ws work total n steps h room)
 
-  pub empty_more : (ws' : List ℕ) (found : Bool) (entry made : ℕ) → Took ws ws' last (take_one key tree (buffers_of ws)) found entry made → Emptying key ws₀ last work₀ ws' (set work n entry) total (n + 1) (steps + made)
-  empty_more ws' found entry made z =
+  alone : length (take_one key tree (buffers_of ws)).out ≡ 1
+  alone = take_one_lem key (tree_roomy_first last) (buffers_of ws) (beside ws last h.so_far.can) (omega (arith, h.left))
+
+  pub found : (ws' : List ℕ) (o : Option ℕ) (made : ℕ) → Took ws ws' last (take_one key tree (buffers_of ws)) o made → IsSome o
+  found ws' o made z = was_found o (take_one key tree (buffers_of ws)).out z.out alone
+
+  pub empty_more : (ws' : List ℕ) (o : Option ℕ) (made : ℕ) → Took ws ws' last (take_one key tree (buffers_of ws)) o made → (entry : ℕ) → o ≡ Some entry → Emptying key ws₀ last work₀ ws' (set work n entry) total (n + 1) (steps + made)
+  empty_more ws' o made z entry is =
       let can = h.so_far.can in
       let one = take_one key tree (buffers_of ws) in
-      let alone : length one.out ≡ 1 = take_one_lem key (tree_roomy_first last) (buffers_of ws) (beside ws last can) (omega (arith, h.left)) in
-      let came : one.out ≡ entry ∷ [] = was_found found entry one.out z.out alone in
+      let came : one.out ≡ entry ∷ [] = sym z.out ∙ ap option_to_list is in
       let now : takes key tree (n + 1) (buffers_of ws₀) ≡ and_then so one =
       ap (λ m. takes key tree m (buffers_of ws₀)) (add-one n) ∙ takes_more key tree n (buffers_of ws₀) ∙ ap (λ bs. and_then so (take_one key tree bs)) (sym h.so_far.state) in
       record {
@@ -170,6 +176,18 @@ empty_all {key} ws₀ last work₀ ws work total n steps can e h past =
     subst (λ m. TookAll ws₀ ws last (takes key (links_from 1 last) m (buffers_of ws₀)) work₀ work total steps) all
     (subst (λ m. TookAll ws₀ ws last (takes key (links_from 1 last) m (buffers_of ws₀)) work₀ work m steps) end h.so_far)
 
+-- all of the work area, where its first words alone were written
+pub whole_work : {ws ws' : List ℕ} {last : ℕ} {z : Taken} (work first : List ℕ) (count steps : ℕ) → TookAll ws ws' last z (take count work) first count steps → count ≤ length work → TookAll ws ws' last z work (first ++ drop count work) count steps
+whole_work {z = z} work first count steps h room = record {
+  can = h.can;
+  state = h.state;
+  out = ap (λ l. l ++ drop count work) (h.out ∙ laid_whole (take count work) z.out (sym h.all ∙ sym (length-take-le count work room))) ∙ ap (λ n. z.out ++ drop n work) (h.all ∙ sym (zero-add (length z.out)));
+  all = h.all;
+  made = h.made;
+  kept = h.kept;
+  others = h.others;
+}
+
 -- ---- few enough for 64 bits
 
 held_small : (ws : List ℕ) → Inside ws → (n : ℕ) → n ≤ many ws → held_from 0 n (buffers_of ws) ≤ 65535 * n
@@ -184,5 +202,5 @@ pub total_small : (ws : List ℕ) (last total : ℕ) → CanTake ws last → tot
 total_small ws last total h e = omega (arith, held_small ws h.array (buffer_count last) (buffers_in ws last h), buffers_in ws last h, few h.array.link)
 
 pub steps_fit : {key : ℕ → ℕ} (ws₀ : List ℕ) (last : ℕ) (work₀ ws work : List ℕ) (total n steps : ℕ) → Emptying key ws₀ last work₀ ws work total n steps → n < total → total ≤ 65535 * book_words
-    → (ws' : List ℕ) (found : Bool) (entry made : ℕ) → Took ws ws' last (take_one key (links_from 1 last) (buffers_of ws)) found entry made → steps + made ≤ 4000000000 * (65535 * book_words)
-steps_fit {key} ws₀ last work₀ ws work total n steps h before small ws' found entry made z = omega (arith, h.few, z.count, take_few ws last h.so_far.can key)
+    → (ws' : List ℕ) (o : Option ℕ) (made : ℕ) → Took ws ws' last (take_one key (links_from 1 last) (buffers_of ws)) o made → steps + made ≤ 4000000000 * (65535 * book_words)
+steps_fit {key} ws₀ last work₀ ws work total n steps h before small ws' o made z = omega (arith, h.few, z.count, take_few ws last h.so_far.can key)

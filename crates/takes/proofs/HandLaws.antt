@@ -9,7 +9,9 @@ use native.Mathlib.Decide.{dec_lt, ℕ_discrete}
 use lib.Dec.{leb}
 use lib.ListN.{length, get_or, drop, set, length-drop}
 use lib.Seq.{set-get_or, set_comm, get_or-set_same, get_or-set_other}
-use Rattle.takes.specs.declared.Source.TheVariants.{Neither, First, Insertion}
+use Rattle.takes.specs.declared.Source.{Source}
+use Rattle.takes.specs.declared.Source.TheVariants.{First, Insertion}
+use Rattle.std.specs.Prelude.{Option, Some, None}
 use Rattle.rules.specs.Links.{first, buffer_count, book_words}
 use Rattle.rules.specs.Tree.{Buffers, Tree, entries, put, links_from}
 use Rattle.rules.specs.Merge.{Step, stop, move, merge_step}
@@ -29,14 +31,14 @@ use Rattle.takes.proofs.ReadyLaws.{top_first, first_has, insertion_has, insertio
 
 -- ---- the step that the smaller head makes
 
-pub neither_says : (key : ℕ → ℕ) (xs ys : List ℕ) → Neither ≡ source_of key xs ys → merge_step key xs ys ≡ stop
+pub neither_says : (key : ℕ → ℕ) (xs ys : List ℕ) → None ≡ source_of key xs ys → merge_step key xs ys ≡ stop
 unfolding source_of merge_step
 neither_says key [] [] e = refl
 neither_says key (x ∷ xs) [] e = let z : ◌≡◌ {A = ℕ} 0 1 = cc in absurd (omega arith)
 neither_says key [] (y ∷ ys) e = let z : ◌≡◌ {A = ℕ} 0 1 = cc in absurd (omega arith)
 neither_says key (x ∷ xs) (y ∷ ys) e = go (leb (key x) (key y)) e
   where
-    go : (b : Bool) → Neither ≡ elim b [ true ↦ First | false ↦ Insertion ] → elim b [ true ↦ move x xs (y ∷ ys) | false ↦ move y (x ∷ xs) ys ] ≡ stop
+    go : (b : Bool) → ◌≡◌ {A = Option Source} None (elim b [ true ↦ Some First | false ↦ Some Insertion ]) → elim b [ true ↦ move x xs (y ∷ ys) | false ↦ move y (x ∷ xs) ys ] ≡ stop
     go true e = let z : ◌≡◌ {A = ℕ} 0 1 = cc in absurd (omega arith)
     go false e = let z : ◌≡◌ {A = ℕ} 0 1 = cc in absurd (omega arith)
 
@@ -44,25 +46,25 @@ pub record Leaves (xs : List ℕ) (step : Step) (after : Step) : Type 0 where
   pub some : 0 < length xs
   pub steps : step ≡ after
 
-pub first_says : (key : ℕ → ℕ) (xs ys : List ℕ) → First ≡ source_of key xs ys → Leaves xs (merge_step key xs ys) (move (get_or xs 0 0) (drop 1 xs) ys)
+pub first_says : (key : ℕ → ℕ) (xs ys : List ℕ) → Some First ≡ source_of key xs ys → Leaves xs (merge_step key xs ys) (move (get_or xs 0 0) (drop 1 xs) ys)
 unfolding source_of merge_step
 first_says key [] [] e = let z : ◌≡◌ {A = ℕ} 0 1 = cc in absurd (omega arith)
 first_says key (x ∷ xs) [] e = record { some = omega arith; steps = refl }
 first_says key [] (y ∷ ys) e = let z : ◌≡◌ {A = ℕ} 0 1 = cc in absurd (omega arith)
 first_says key (x ∷ xs) (y ∷ ys) e = record { some = omega arith; steps = go (leb (key x) (key y)) e }
   where
-    go : (b : Bool) → First ≡ elim b [ true ↦ First | false ↦ Insertion ] → elim b [ true ↦ move x xs (y ∷ ys) | false ↦ move y (x ∷ xs) ys ] ≡ move x xs (y ∷ ys)
+    go : (b : Bool) → ◌≡◌ {A = Option Source} (Some First) (elim b [ true ↦ Some First | false ↦ Some Insertion ]) → elim b [ true ↦ move x xs (y ∷ ys) | false ↦ move y (x ∷ xs) ys ] ≡ move x xs (y ∷ ys)
     go true e = refl
     go false e = let z : ◌≡◌ {A = ℕ} 0 1 = cc in absurd (omega arith)
 
-pub insertion_says : (key : ℕ → ℕ) (xs ys : List ℕ) → Insertion ≡ source_of key xs ys → Leaves ys (merge_step key xs ys) (move (get_or ys 0 0) xs (drop 1 ys))
+pub insertion_says : (key : ℕ → ℕ) (xs ys : List ℕ) → Some Insertion ≡ source_of key xs ys → Leaves ys (merge_step key xs ys) (move (get_or ys 0 0) xs (drop 1 ys))
 unfolding source_of merge_step
 insertion_says key [] [] e = let z : ◌≡◌ {A = ℕ} 0 1 = cc in absurd (omega arith)
 insertion_says key (x ∷ xs) [] e = let z : ◌≡◌ {A = ℕ} 0 1 = cc in absurd (omega arith)
 insertion_says key [] (y ∷ ys) e = record { some = omega arith; steps = refl }
 insertion_says key (x ∷ xs) (y ∷ ys) e = record { some = omega arith; steps = go (leb (key x) (key y)) e }
   where
-    go : (b : Bool) → Insertion ≡ elim b [ true ↦ First | false ↦ Insertion ] → elim b [ true ↦ move x xs (y ∷ ys) | false ↦ move y (x ∷ xs) ys ] ≡ move y (x ∷ xs) ys
+    go : (b : Bool) → ◌≡◌ {A = Option Source} (Some Insertion) (elim b [ true ↦ Some First | false ↦ Some Insertion ]) → elim b [ true ↦ move x xs (y ∷ ys) | false ↦ move y (x ∷ xs) ys ] ≡ move y (x ∷ xs) ys
     go true e = let z : ◌≡◌ {A = ℕ} 0 1 = cc in absurd (omega arith)
     go false e = refl
 
@@ -96,11 +98,11 @@ module _ (key : ℕ → ℕ) (ws : List ℕ) (last : ℕ) (h : CanTake ws last) 
   word_of_I = d.others 0 (insertion_has ws last h).below (λ s. let low = (links_range 1 last (omega arith) (in_stands 0 t s)).0 in absurd (omega (arith, first_one)))
 
   -- nothing is held there
-  pub took_none : Neither ≡ source_of key xs ys → Took ws ws₁ last (take_one key t (buffers_of ws)) false 0 steps
+  pub took_none : None ≡ source_of key xs ys → Took ws ws₁ last (take_one key t (buffers_of ws)) None steps
   unfolding hand_out
   took_none e =
       rw (taken_is stop (neither_says key xs ys e))
-      record { array = d.array; out = refl; state = d.state; count = d.count; marks = d.marks; kept = d.kept; none = λ e. refl; mark_of_I = ap mark_in word_of_I; fewer_in_I = rw word_of_I (omega arith); others = λ n lt differ out. d.others n lt out }
+      record { array = d.array; out = refl; state = d.state; count = d.count; marks = d.marks; kept = d.kept; mark_of_I = ap mark_in word_of_I; fewer_in_I = rw word_of_I (omega arith); others = λ n lt differ out. d.others n lt out }
 
   stands_below : (m : ℕ) → Stands m t → m < many ws₁
   unfolding buffer_count
@@ -131,7 +133,7 @@ module _ (key : ℕ → ℕ) (ws : List ℕ) (last : ℕ) (h : CanTake ws last) 
         only_word ws₁ ws₂ n of z.only m (rw (kept_links d.kept) lt) (⊎_elim (λ e q. differ (q ∙ e)) (λ s q. out (rw q s)) inside) ∙ d.others m lt out
 
   -- A(1)'s head leaves it
-  module _ (e : First ≡ source_of key xs ys) where
+  module _ (e : Some First ≡ source_of key xs ys) where
     says : Leaves xs (merge_step key xs ys) (move (get_or xs 0 0) (drop 1 xs) ys)
     says = first_says key xs ys e
 
@@ -146,7 +148,7 @@ module _ (key : ℕ → ℕ) (ws : List ℕ) (last : ℕ) (h : CanTake ws last) 
     first_can = first_headed ws₁ last can_now (omega (arith, says.some, ap length (first_is ws₁ last can_now low), buffer_length ws₁ 1 (first_has ws₁ last can_now)))
 
     pub took_first : (ws₂ : List ℕ) (entry : ℕ) → entry ≡ get_or (buffer_of ws₁ 1) 0 0 → Now ws₁ ws₂ 1 (drop 1 (buffer_of ws₁ 1)) → Word ws₂ 1 (mark_of ws₁ 1) (start_of ws₁ 1 + 1)
-        → Took ws ws₂ last (take_one key t (buffers_of ws)) true entry steps
+        → Took ws ws₂ last (take_one key t (buffers_of ws)) (Some entry) steps
     unfolding hand_out insertion
     took_first ws₂ entry q z w =
         let of = first_has ws₁ last can_now in
@@ -162,14 +164,13 @@ module _ (key : ℕ → ℕ) (ws : List ℕ) (last : ℕ) (h : CanTake ws last) 
           count = d.count;
           marks = marks_dropped 1 of ws₂ z w;
           kept = kept_both 1 of ws₂ z w;
-          none = λ e. let z : ◌≡◌ {A = ℕ} 0 1 = cc in absurd (omega arith);
           mark_of_I = ap mark_in (only_word ws₁ ws₂ 1 of z.only 0 (insertion_has ws₁ last can_now).below (omega arith) ∙ word_of_I);
           fewer_in_I = rw (only_word ws₁ ws₂ 1 of z.only 0 (insertion_has ws₁ last can_now).below (omega arith), word_of_I) (omega arith);
           others = others_both 1 of ws₂ z w (inr (stands_in (top_stands 1 t top)));
         }
 
   -- I's head leaves it
-  module _ (e : Insertion ≡ source_of key xs ys) where
+  module _ (e : Some Insertion ≡ source_of key xs ys) where
     says_I : Leaves ys (merge_step key xs ys) (move (get_or ys 0 0) xs (drop 1 ys))
     says_I = insertion_says key xs ys e
 
@@ -177,7 +178,7 @@ module _ (key : ℕ → ℕ) (ws : List ℕ) (last : ℕ) (h : CanTake ws last) 
     insertion_can = insertion_headed ws₁ last can_now (omega (arith, says_I.some, ap length (insertion_is ws₁ last can_now), buffer_length ws₁ 0 (insertion_has ws₁ last can_now)))
 
     pub took_insertion : (ws₂ : List ℕ) (entry : ℕ) → entry ≡ get_or (buffer_of ws₁ 0) 0 0 → Now ws₁ ws₂ 0 (drop 1 (buffer_of ws₁ 0)) → Word ws₂ 0 (mark_of ws₁ 0) (start_of ws₁ 0 + 1)
-        → Took ws ws₂ last (take_one key t (buffers_of ws)) true entry steps
+        → Took ws ws₂ last (take_one key t (buffers_of ws)) (Some entry) steps
     unfolding hand_out
     took_insertion ws₂ entry q z w =
         let of = insertion_has ws₁ last can_now in
@@ -191,7 +192,6 @@ module _ (key : ℕ → ℕ) (ws : List ℕ) (last : ℕ) (h : CanTake ws last) 
           count = d.count;
           marks = marks_dropped 0 of ws₂ z w;
           kept = kept_both 0 of ws₂ z w;
-          none = λ e. let z : ◌≡◌ {A = ℕ} 0 1 = cc in absurd (omega arith);
           mark_of_I = w.mark ∙ ap mark_in word_of_I;
           fewer_in_I =
               let lt₂ : 0 < many ws₂ = rw (kept_links (only_kept ws₁ ws₂ 0 of z.only)) of.below in
@@ -210,11 +210,11 @@ module _ (key : ℕ → ℕ) (ws : List ℕ) (last : ℕ) (h : CanTake ws last) 
   abbrev two : List ℕ
   two = insertion (buffers_of ws)
 
-  pub head_none : Neither ≡ source_of key one two → 0 ≡ head_in (merge_step key one two)
+  pub head_none : None ≡ source_of key one two → None ≡ head_in (merge_step key one two)
   unfolding head_in
   head_none e = rw (neither_says key one two e)
 
-  module _ (e : First ≡ source_of key one two) where
+  module _ (e : Some First ≡ source_of key one two) where
     a_link : 1 ≤ last
     a_link = go (dec_lt 0 last)
       where
@@ -225,14 +225,14 @@ module _ (key : ℕ → ℕ) (ws : List ℕ) (last : ℕ) (h : CanTake ws last) 
     pub first_head_can : Headed ws 1 (book_words + 8)
     first_head_can = first_headed ws last h (omega (arith, (first_says key one two e).some, ap length (first_is ws last h a_link), buffer_length ws 1 (first_has ws last h)))
 
-    pub first_head : (r : ℕ) → r ≡ get_or (buffer_of ws 1) 0 0 → r ≡ head_in (merge_step key one two)
+    pub first_head : (r : ℕ) → r ≡ get_or (buffer_of ws 1) 0 0 → Some r ≡ head_in (merge_step key one two)
     unfolding head_in
-    first_head r q = q ∙ ap (λ l. get_or l 0 0) (sym (first_is ws last h a_link)) ∙ ap head_in (sym (first_says key one two e).steps)
+    first_head r q = ap (λ n. Some n) (q ∙ ap (λ l. get_or l 0 0) (sym (first_is ws last h a_link))) ∙ ap head_in (sym (first_says key one two e).steps)
 
-  module _ (e : Insertion ≡ source_of key one two) where
+  module _ (e : Some Insertion ≡ source_of key one two) where
     pub insertion_head_can : Headed ws 0 book_words
     insertion_head_can = insertion_headed ws last h (omega (arith, (insertion_says key one two e).some, ap length (insertion_is ws last h), buffer_length ws 0 (insertion_has ws last h)))
 
-    pub insertion_head : (r : ℕ) → r ≡ get_or (buffer_of ws 0) 0 0 → r ≡ head_in (merge_step key one two)
+    pub insertion_head : (r : ℕ) → r ≡ get_or (buffer_of ws 0) 0 0 → Some r ≡ head_in (merge_step key one two)
     unfolding head_in
-    insertion_head r q = q ∙ ap (λ l. get_or l 0 0) (sym (insertion_is ws last h)) ∙ ap head_in (sym (insertion_says key one two e).steps)
+    insertion_head r q = ap (λ n. Some n) (q ∙ ap (λ l. get_or l 0 0) (sym (insertion_is ws last h))) ∙ ap head_in (sym (insertion_says key one two e).steps)

@@ -1,12 +1,11 @@
 -- A(1) made ready: filled where it is empty, over the first links.
 use Prim.Native.Nat.{ℕ, zero, suc, ◌+◌, ◌-◌, ◌≤◌, ◌<◌}
 use mathlib.Core.Path.{◌≡◌, refl, sym, ap, ◌∙◌}
-use mathlib.Core.Bool.{true, false}
+use mathlib.Core.Bool.{Bool, true, false}
 use mathlib.Core.List.{List, [], ◌∷◌}
 use native.Mathlib.Omega.{arith}
 use borrow.Author.Tests.{leb-true, leb-false}
 use lib.Dec.{leb}
-use lib.ListN.{length, get_or}
 use Rattle.rules.specs.Links.{first, book_words, LinkNumber}
 use Rattle.rules.specs.Tree.{exhausted, entries, links_from}
 use Rattle.rules.specs.Fill.{fill}
@@ -16,14 +15,16 @@ use Rattle.rules.proofs.Sizes.{first_one}
 use Rattle.buffers.specs.Format.{count_of, many, buffer_of, buffers_of}
 use Rattle.buffers.specs.Post.{Has, Headed}
 use Rattle.buffers.proofs.SlotLaws.{base_zero, base_one, some}
-use Rattle.buffers.proofs.ArrayLaws.{has, buffer_length, buffers_at}
+use Rattle.buffers.proofs.ArrayLaws.{has, buffers_at}
 use Rattle.mergers.specs.Subtree.{subtree}
 use Rattle.mergers.specs.Post.{wanted, wanted_in}
 use Rattle.mergers.specs.Fills.{CanFill, Did}
 use Rattle.mergers.proofs.FillLaws.{IsTop, top_entries, Input, left_alone, filled_now}
 use Rattle.mergers.proofs.WalkLaws.{wanted_none, and_first, and_second}
 use Rattle.takes.specs.Heads.{CanTake, source_of}
-use Rattle.takes.specs.declared.Source.TheVariants.{Neither, First, Insertion}
+use Rattle.takes.specs.declared.Source.{Source}
+use Rattle.takes.specs.declared.Source.TheVariants.{First, Insertion}
+use Rattle.std.specs.Prelude.{Option, Some, None, slice_get}
 
 -- the tree of the first links
 pub tree_is : (last : ℕ) → subtree last 1 0 ≡ links_from 1 last
@@ -77,10 +78,6 @@ module _ (ws : List ℕ) (last : ℕ) (h : CanTake ws last) where
 
   -- ---- the heads
 
-  pub insertion_count : length (insertion (buffers_of ws)) ≡ count_of ws 0
-  unfolding insertion
-  insertion_count = ap length (buffers_at ws 0 insertion_has.below) ∙ buffer_length ws 0 insertion_has
-
   pub insertion_is : insertion (buffers_of ws) ≡ buffer_of ws 0
   unfolding insertion
   insertion_is = buffers_at ws 0 insertion_has.below
@@ -92,43 +89,33 @@ module _ (ws : List ℕ) (last : ℕ) (h : CanTake ws last) where
   unfolding entries
   first_none e = rw (no_link last (omega arith))
 
-  pub first_count : 1 ≤ last → length (entries (links_from 1 last) (buffers_of ws)) ≡ count_of ws 1
-  first_count low = ap length (first_is low) ∙ buffer_length ws 1 first_has
-
   pub first_headed : 0 < count_of ws 1 → Headed ws 1 (book_words + 8)
   first_headed some = record { of = first_has; begins = sym base_one; some = some }
 
   pub insertion_headed : 0 < count_of ws 0 → Headed ws 0 book_words
   insertion_headed some = record { of = insertion_has; begins = sym base_zero; some = some }
 
--- which head is smaller, by which of the two buffers have entries
-module _ (key : ℕ → ℕ) where
-  pub none_of : (xs ys : List ℕ) → length xs ≡ 0 → length ys ≡ 0 → Neither ≡ source_of key xs ys
-  unfolding source_of
-  none_of [] [] p q = refl
-  none_of (x ∷ xs) ys p q = absurd (omega arith)
-  none_of [] (y ∷ ys) p q = absurd (omega arith)
+-- which head is smaller, by the two heads
+abbrev pub by_heads : (ℕ → ℕ) → Option ℕ → Option ℕ → Option Source
+by_heads key None None = None
+by_heads key (Some x) None = Some First
+by_heads key None (Some y) = Some Insertion
+by_heads key (Some x) (Some y) = elim (leb (key x) (key y)) [ true ↦ Some First | false ↦ Some Insertion ]
 
-  pub second_of : (xs ys : List ℕ) → length xs ≡ 0 → 0 < length ys → Insertion ≡ source_of key xs ys
-  unfolding source_of
-  second_of [] [] p q = absurd (omega arith)
-  second_of (x ∷ xs) ys p q = absurd (omega arith)
-  second_of [] (y ∷ ys) p q = refl
+pub pick : (key : ℕ → ℕ) (x y : ℕ) (b : Bool) → leb (key x) (key y) ≡ b → elim b [ true ↦ Some First | false ↦ Some Insertion ] ≡ by_heads key (Some x) (Some y)
+pick key x y b e = ap (λ (c : Bool). elim c [ true ↦ Some First | false ↦ Some Insertion ]) (sym e)
 
-  pub first_of : (xs ys : List ℕ) → 0 < length xs → length ys ≡ 0 → First ≡ source_of key xs ys
-  unfolding source_of
-  first_of [] ys p q = absurd (omega arith)
-  first_of (x ∷ xs) [] p q = refl
-  first_of (x ∷ xs) (y ∷ ys) p q = absurd (omega arith)
+source_is : (key : ℕ → ℕ) (xs ys : List ℕ) → by_heads key (slice_get xs 0) (slice_get ys 0) ≡ source_of key xs ys
+unfolding source_of
+source_is key [] [] = refl
+source_is key (x ∷ xs) [] = refl
+source_is key [] (y ∷ ys) = refl
+source_is key (x ∷ xs) (y ∷ ys) = refl
 
-  pub smaller_first : (xs ys : List ℕ) → 0 < length xs → 0 < length ys → leb (key (get_or xs 0 0)) (key (get_or ys 0 0)) ≡ true → First ≡ source_of key xs ys
-  unfolding source_of
-  smaller_first [] ys p q e = absurd (omega arith)
-  smaller_first (x ∷ xs) [] p q e = absurd (omega arith)
-  smaller_first (x ∷ xs) (y ∷ ys) p q e = rw (e, source_of)
-
-  pub smaller_second : (xs ys : List ℕ) → 0 < length xs → 0 < length ys → leb (key (get_or xs 0 0)) (key (get_or ys 0 0)) ≡ false → Insertion ≡ source_of key xs ys
-  unfolding source_of
-  smaller_second [] ys p q e = absurd (omega arith)
-  smaller_second (x ∷ xs) [] p q e = absurd (omega arith)
-  smaller_second (x ∷ xs) (y ∷ ys) p q e = rw (e, source_of)
+module _ (ws : List ℕ) (last : ℕ) (h : CanTake ws last) (key : ℕ → ℕ) where
+  -- which head is smaller, by the two heads that were read
+  pub by_two : (o p : Option ℕ) → o ≡ slice_get (entries (links_from 1 last) (buffers_of ws)) 0 → p ≡ slice_get (buffer_of ws 0) 0 → by_heads key o p ≡ source_of key (entries (links_from 1 last) (buffers_of ws)) (insertion (buffers_of ws))
+  by_two o p e f =
+      let xs = entries (links_from 1 last) (buffers_of ws) in
+      let f' : p ≡ slice_get (insertion (buffers_of ws)) 0 = f ∙ ap (λ l. slice_get l 0) (sym (insertion_is ws last h)) in
+      ap (λ q. by_heads key q p) e ∙ ap (by_heads key (slice_get xs 0)) f' ∙ source_is key xs (insertion (buffers_of ws))

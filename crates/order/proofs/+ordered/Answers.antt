@@ -15,9 +15,6 @@ reached_at can counts place = record { can = can; counts = counts; place = place
 pub returns-then-links-i : goal.returns-then-links-i
 returns-then-links-i t c = behind_ordered _ c.requires (omega arith) _
 
-pub place_of-place-requires : goal.place_of-place-requires
-place_of-place-requires t c = c.requires.spot
-
 pub ascends-requires : goal.ascends-requires
 ascends-requires t c = walk_at (reached_at c.requires (omega arith) c.place_of-place.ensures)
 
@@ -35,9 +32,6 @@ returns-then-k-j t c =
 pub last_entry-last-requires : goal.last_entry-last-requires
 last_entry-last-requires t c = walk_at (reached_at c.requires (omega arith) c.place_of-place.ensures)
 
-pub first_input-requires : goal.first_input-requires
-first_input-requires t c = c.requires.spot.few
-
 -- past the test of k: a merger feeds the buffer, which ascends
 onward_at : {key : ℕ → ℕ} {ws : List ℕ} {links i j n at low : ℕ} → Reached ws links i j n at → (a b : ℕ) → a ≡ i → b ≡ k a → j < b → ascends key (key low) (buffer_of ws n) ≡ true → Onward key ws links i j n at low
 onward_at r a b a_is b_is above ascending = record { reached = r; above = omega (arith, ap k a_is); ascending = ascending }
@@ -47,34 +41,29 @@ ordered-requires t c =
     let g = onward_at (reached_at c.requires (omega arith) c.place_of-place.ensures) _ _ c.at.ensures c.k.ensures (omega arith) (sym c.ascends.ensures ∙ c.if-not-ascends.false) in
     (omega (arith, first_falls g c.first_input.ensures), first_can g c.first_input.ensures)
 
-pub returns-then-not-ordered : goal.returns-then-not-ordered
-returns-then-not-ordered t c =
-    broken_in_first
+pub returns-else-ordered : goal.returns-else-ordered
+returns-else-ordered t c =
+    c.if-ordered.false
+    ∙ broken_in_first
     (onward_at (reached_at c.requires (omega arith) c.place_of-place.ensures) _ _ c.at.ensures c.k.ensures (omega arith) (sym c.ascends.ensures ∙ c.if-not-ascends.false))
     c.first_input.ensures
     c.last_entry-last.ensures
     c.ordered.ensures
-    c.if-not-ordered.true
+    c.if-ordered.false
 
-pub second_link-requires : goal.second_link-requires
-second_link-requires t c = omega (arith, (walk_in c.requires (omega arith)).link.high)
-
-pub second_input-requires : goal.second_input-requires
-second_input-requires t c = c.requires.spot.few
-
-pub ordered-requires-2 : goal.ordered-requires-2
-ordered-requires-2 t c =
+pub ordered-requires-then-ordered : goal.ordered-requires-then-ordered
+ordered-requires-then-ordered t c =
     let g = onward_at (reached_at c.requires (omega arith) c.place_of-place.ensures) _ _ c.at.ensures c.k.ensures (omega arith) (sym c.ascends.ensures ∙ c.if-not-ascends.false) in
     (omega (arith, second_falls g c.second_link.ensures c.second_input.ensures), second_can g c.second_link.ensures c.second_input.ensures)
 
-pub returns : goal.returns
-returns t c =
+pub returns-then-ordered : goal.returns-then-ordered
+returns-then-ordered t c =
     left_to_second
     (onward_at (reached_at c.requires (omega arith) c.place_of-place.ensures) _ _ c.at.ensures c.k.ensures (omega arith) (sym c.ascends.ensures ∙ c.if-not-ascends.false))
     c.first_input.ensures
     c.last_entry-last.ensures
     c.ordered.ensures
-    c.if-not-ordered.false
+    c.if-ordered.true
     c.second_link.ensures
     c.second_input.ensures
-    c.ordered-2.ensures
+    c.ordered-then-ordered.ensures
