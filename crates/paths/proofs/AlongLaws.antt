@@ -1,43 +1,49 @@
 -- Where a buffer lies, by its number; the counts on a path, and the run along it.
 use mathlib.Core.Path.{◌≡◌, refl, sym, ap, ◌∙◌}
 use mathlib.Core.List.{List, [], ◌∷◌, ◌++◌, map, map-append}
-use Prim.Native.Nat.{ℕ, zero, suc, ◌+◌, ◌-◌, ◌≤◌, ◌<◌}
+use Prim.Native.Nat.{ℕ, suc, ◌+◌, ◌-◌, ◌≤◌, ◌<◌}
 use native.Mathlib.Omega.{arith}
 use native.Mathlib.Numerals.{add-one}
-use lib.ListN.{length, take, drop, get_or, set, length-set, length-append, drop_of_length-le}
-use lib.Seq.{take-suc, take-suc-set, drop-cons, get_or-take, length-take-le}
-use Rattle.rules.specs.Links.{first, start, offset, buffer_count, most_links, all_buffers, book_words, path_room, LinkNumber, InLink}
+use lib.ListN.{length, take, drop, get_or, set, get_or-map, length-append, drop_of_length-le, take-append-drop}
+use lib.Seq.{take_at, take_all, take-suc, take-suc-set, drop-cons, get_or-take, get_or-drop, map-set_same, length-take-le}
+use Rattle.std.proofs.lemmas.List.{length-map, map-set, drop-map}
+use Rattle.rules.specs.Links.{LinkNumber, k, first, start, offset, buffer_count, most_links, all_buffers, book_words, path_room, InLink}
 use Rattle.rules.specs.Sweep.{counts, run_along}
 use Rattle.rules.proofs.Sizes.{first_next}
 use Rattle.rules.proofs.Table.{in_link}
 use Rattle.buffers.specs.Slots.{base}
-use Rattle.buffers.specs.Format.{count_of, start_of, buffer_of, buffers_of}
+use Rattle.buffers.specs.Format.{buffer_of, buffers_of}
 use Rattle.buffers.specs.Post.{Has}
 use Rattle.buffers.proofs.SlotLaws.{base_is}
 use Rattle.buffers.proofs.ArrayLaws.{has, buffer_length, buffers_at}
-use Rattle.runs.specs.Promises.{laid_at, stretch}
+use Rattle.runs.specs.Promises.{laid_at}
 use Rattle.runs.proofs.LayingLaws.{length_laid, laid_none, laid_on}
+use Rattle.paths.specs.declared.Step.{Step}
+use Rattle.paths.specs.Way.{numbers_of, counts_of}
 use Rattle.paths.specs.Along.{Number, LinkOf, OnPath, Noting, Noted, Copying, Copied, along_from, Gathering}
 
 -- ---- the link of a number
 
 -- the number stands before the next link
-pub record Down (n i : ℕ) : Type 0 where
+pub record Below (n i : ℕ) : Type 0 where
   pub link : LinkNumber i
   pub high : n < first (suc i)
 
-pub down_first : {n : ℕ} → Number n → Down n most_links
+pub below_all : {n : ℕ} → Number n → Below n most_links
 unfolding all_buffers buffer_count
-down_first h = record { link = record { low = omega arith; high = omega arith }; high = h.few }
+below_all h = record { link = record { low = omega arith; high = omega arith }; high = h.few }
 
-pub down_next : (n i : ℕ) → Number n → Down n i → n < first i → Down n (i - 1)
+-- and not before this link
+pub below_here : {n i : ℕ} → Below n i → first i ≤ n → LinkOf n i
+below_here {n} {i} b low = record { link = b.link; low = low; high = omega (arith, b.high, first_next i b.link.low) }
+
+-- link 1 begins at 1
+pub below_first : {n i : ℕ} → Number n → Below n i → i ≤ 1 → LinkOf n 1
 unfolding first
-down_next n zero h d less = absurd (omega (arith, d.link.low))
-down_next n (suc zero) h d less = absurd (omega (arith, h.low))
-down_next n (suc (suc i)) h d less = let e : suc (suc i) - 1 ≡ suc i = omega arith in rw e record { link = record { low = omega arith; high = omega (arith, d.link.high) }; high = less }
-
-pub down_last : {n i : ℕ} → Down n i → first i ≤ n → LinkOf n i
-down_last {n} {i} d low = record { link = d.link; low = low; high = omega (arith, d.high, first_next i d.link.low) }
+below_first {n} {i} h b few =
+    let e : i ≡ 1 = omega (arith, b.link.low) in
+    let z : Below n 1 = rw e at b in
+    below_here z h.low
 
 -- ---- where a buffer lies
 
@@ -72,47 +78,92 @@ module _ {ws ns : List ℕ} {n : ℕ} (h : OnPath ws ns n) where
   pub path_end : (t : ℕ) → n ≤ t → drop t (take n ns) ≡ []
   path_end t all = let past : length (take n ns) ≤ t = omega (arith, path_long) in drop_of_length-le (take n ns) past
 
+-- ---- its steps
+
+-- what stands at the t-th of the first steps
+module _ (steps : List Step) (k t : ℕ) (less : t < k) where
+  pub buffer_at : (get_or (take k steps) t (record { buffer = 0; count = 0 })).buffer ≡ get_or (numbers_of steps) t 0
+  buffer_at =
+      let none : Step = record { buffer = 0; count = 0 } in
+      ap (λ (step : Step). step.buffer) (get_or-take k steps t none less) ∙ sym (get_or-map (λ (step : Step). step.buffer) steps t none)
+
+  pub count_at : (get_or (take k steps) t (record { buffer = 0; count = 0 })).count ≡ get_or (counts_of steps) t 0
+  count_at =
+      let none : Step = record { buffer = 0; count = 0 } in
+      ap (λ (step : Step). step.count) (get_or-take k steps t none less) ∙ sym (get_or-map (λ (step : Step). step.count) steps t none)
+
+pub buffer_last : (steps : List Step) (k t : ℕ) → t ≡ k → (get_or steps k (record { buffer = 0; count = 0 })).buffer ≡ get_or (numbers_of steps) t 0
+buffer_last steps k t e = let none : Step = record { buffer = 0; count = 0 } in sym (get_or-map (λ (step : Step). step.buffer) steps k none) ∙ ap (λ n. get_or (numbers_of steps) n 0) (sym e)
+
+-- and of those from one of them on
+pub buffer_from : (steps : List Step) (from k t : ℕ) → t < k → (get_or (take k (drop from steps)) t (record { buffer = 0; count = 0 })).buffer ≡ get_or (numbers_of steps) (from + t) 0
+buffer_from steps from k t less =
+    buffer_at (drop from steps) k t less ∙ ap (λ l. get_or l t 0) (sym (drop-map (λ (step : Step). step.buffer) from steps)) ∙ get_or-drop from (numbers_of steps) t 0
+
 -- ---- the counts on it
 
 -- t of them are noted
-pub record Notes (ws ns : List ℕ) (n : ℕ) (cs : List ℕ) (t : ℕ) : Type 0 where
-  pub within : t ≤ n
-  pub long : length cs ≡ path_room
-  pub are : take t cs ≡ counts (take t ns) (buffers_of ws)
+pub record Notes (ws : List ℕ) (steps₀ steps : List Step) (t : ℕ) : Type 0 where
+  pub same : numbers_of steps ≡ numbers_of steps₀
+  pub are : take t (counts_of steps) ≡ counts (take t (numbers_of steps)) (buffers_of ws)
 
-pub notes_first : {ws ns : List ℕ} {n : ℕ} {cs : List ℕ} → Noting ws ns n cs → Notes ws ns n cs 0
+pub notes_first : (ws : List ℕ) (steps : List Step) → Notes ws steps steps 0
 unfolding counts
-notes_first h = record { within = omega arith; long = h.room; are = refl }
+notes_first ws steps = record { same = refl; are = refl }
 
-pub notes_next : {ws ns : List ℕ} {n : ℕ} {cs₀ cs : List ℕ} {t : ℕ} → Noting ws ns n cs₀ → Notes ws ns n cs t → t < n → (v : ℕ) → v ≡ length (buffer_of ws (get_or ns t 0)) → Notes ws ns n (set cs t v) (t + 1)
-unfolding counts
-notes_next {ws} {ns} {n} {cs₀} {cs} {t} h z less v e =
-    let f : ℕ → ℕ = λ m. length (get_or (buffers_of ws) m []) in
-    let one : v ∷ [] ≡ map f (get_or ns t 0 ∷ []) = ap (λ m. m ∷ []) (e ∙ ap length (sym (path_buffer h.path t less))) in
-    let room : t < length ns = omega (arith, h.path.long, h.path.few) in
-    record {
-      within = omega arith;
-      long = length-set cs t v ∙ z.long;
-      are = rw (add-one, take-suc-set cs t v (omega (arith, z.long, h.path.few)), take-suc ns t 0 room, z.are, one) (sym (map-append f (take t ns) (get_or ns t 0 ∷ [])));
-    }
+module _ {ws cs : List ℕ} {n t : ℕ} (all steps : List Step) (h : Noting ws (numbers_of all) n cs) (z : Notes ws (take n all) steps t) (less : t < n) where
+  abbrev number : ℕ
+  number = (get_or steps t (record { buffer = 0; count = 0 })).buffer
 
-pub notes_last : {ws ns : List ℕ} {n : ℕ} {cs : List ℕ} {t : ℕ} → Notes ws ns n cs t → n ≤ t → Noted ws ns n cs
-notes_last {n = n} {t = t} z all = let e : t ≡ n = omega (arith, z.within) in record { long = z.long; are = rw (← e) z.are }
+  long_steps : length steps ≡ n
+  long_steps =
+      let inside : n ≤ length all = omega (arith, h.path.long, h.path.few, length-map all (λ (step : Step). step.buffer)) in
+      sym (length-map steps (λ (step : Step). step.buffer)) ∙ ap length z.same ∙ length-map (take n all) (λ (step : Step). step.buffer) ∙ length-take-le n all inside
 
--- ---- one buffer's entries, copied
+  number_is : number ≡ get_or (numbers_of all) t 0
+  number_is =
+      let none : Step = record { buffer = 0; count = 0 } in
+      sym (get_or-map (λ (step : Step). step.buffer) steps t none) ∙ ap (λ l. get_or l t 0) z.same ∙ get_or-map (λ (step : Step). step.buffer) (take n all) t none ∙ buffer_at all n t less
 
-module _ (ws : List ℕ) (n : ℕ) (work : List ℕ) (at : ℕ) (h : Copying ws n work at) (count base' start' : ℕ) (ec : count ≡ length (buffer_of ws n)) (eb : base' ≡ base n) (es : start' ≡ start_of ws n) where
-  pub copy_count : count ≡ count_of ws n
-  copy_count = ec ∙ buffer_length ws n h.of
+  pub notes_asks : Has ws number
+  notes_asks = rw number_is (path_has h.path t less)
 
-  pub copy_run : stretch (base' + start') (base' + start' + count) ws ≡ buffer_of ws n
-  unfolding buffer_of
-  copy_run =
-      let e : base' + start' + count - (base' + start') ≡ count_of ws n = omega (arith, copy_count) in
-      rw (e, eb, es)
+  pub notes_next : (v : ℕ) → v ≡ length (buffer_of ws number) → Notes ws (take n all) (set steps t (record { buffer = number; count = v })) (t + 1)
+  unfolding counts
+  notes_next v e =
+      let none : Step = record { buffer = 0; count = 0 } in
+      let step : Step = record { buffer = number; count = v } in
+      let f : ℕ → ℕ = λ m. length (get_or (buffers_of ws) m []) in
+      let kept : numbers_of (set steps t step) ≡ numbers_of steps = map-set_same (λ (step : Step). step.buffer) steps t step none refl in
+      let put : counts_of (set steps t step) ≡ set (counts_of steps) t v = map-set (λ (step : Step). step.count) steps t step in
+      let at : get_or (numbers_of steps) t 0 ≡ get_or (numbers_of all) t 0 = get_or-map (λ (step : Step). step.buffer) steps t none ∙ number_is in
+      let one : v ∷ [] ≡ map f (get_or (numbers_of steps) t 0 ∷ []) = ap (λ m. m ∷ []) (e ∙ rw (number_is, at) (ap length (sym (path_buffer h.path t less)))) in
+      let room_counts : t < length (counts_of steps) = omega (arith, length-map steps (λ (step : Step). step.count), long_steps) in
+      let room_numbers : t < length (numbers_of steps) = omega (arith, length-map steps (λ (step : Step). step.buffer), long_steps) in
+      record {
+        same = kept ∙ z.same;
+        are = rw (put, kept, add-one, take-suc-set (counts_of steps) t v room_counts, take-suc (numbers_of steps) t 0 room_numbers, z.are, one) (sym (map-append f (take t (numbers_of steps)) (get_or (numbers_of steps) t 0 ∷ [])));
+      }
 
-  pub copy_inside : base' + start' + count ≤ length ws
-  copy_inside = omega (arith, copy_count, h.of.fits, h.of.slots)
+module _ {ws cs : List ℕ} {n t : ℕ} (all steps : List Step) (h : Noting ws (numbers_of all) n cs) (z : Notes ws (take n all) steps t) where
+  -- the other steps stand behind those that were noted
+  pub noted_numbers : numbers_of (steps ++ drop n all) ≡ numbers_of all
+  noted_numbers =
+      let f : Step → ℕ = λ (step : Step). step.buffer in
+      map-append f steps (drop n all) ∙ ap (λ l. l ++ map f (drop n all)) z.same ∙ sym (map-append f (take n all) (drop n all)) ∙ ap (map f) (take-append-drop n all)
+
+  pub noted_all : n ≤ t → length steps ≡ n → Noted ws (numbers_of (steps ++ drop n all)) n (counts_of (steps ++ drop n all))
+  noted_all past long =
+      let f : Step → ℕ = λ (step : Step). step.buffer in
+      let g : Step → ℕ = λ (step : Step). step.count in
+      let whole : length (steps ++ drop n all) ≡ path_room = sym (length-map (steps ++ drop n all) f) ∙ ap length noted_numbers ∙ h.path.long in
+      let long_f : length (map f steps) ≡ n = length-map steps f ∙ long in
+      let long_g : length (map g steps) ≡ n = length-map steps g ∙ long in
+      let numbers : take n (numbers_of (steps ++ drop n all)) ≡ map f steps = ap (take n) (map-append f steps (drop n all)) ∙ take_at (map f steps) (map f (drop n all)) n long_f in
+      let noted : take n (counts_of (steps ++ drop n all)) ≡ map g steps = ap (take n) (map-append g steps (drop n all)) ∙ take_at (map g steps) (map g (drop n all)) n long_g in
+      let are : map g steps ≡ counts (map f steps) (buffers_of ws) =
+      sym (take_all t (map g steps) (omega (arith, long_g))) ∙ z.are ∙ ap (λ l. counts l (buffers_of ws)) (take_all t (map f steps) (omega (arith, long_f))) in
+      record { long = length-map (steps ++ drop n all) g ∙ whole; are = noted ∙ are ∙ ap (λ l. counts l (buffers_of ws)) (sym numbers) }
 
 -- ---- the run along it
 
@@ -124,38 +175,35 @@ pub record Gathers (ws ns : List ℕ) (from n : ℕ) (work₀ work : List ℕ) (
   pub all : copied + length (along_from ws ns t n) ≡ length (along_from ws ns from n)
   pub laid : laid_at work (at + copied) (along_from ws ns t n) ≡ laid_at work₀ at (along_from ws ns from n)
 
-pub gathers_first : {ws ns : List ℕ} {from n : ℕ} {work : List ℕ} {at : ℕ} → Gathering ws ns from n work at → Gathers ws ns from n work work at 0 from
-gathers_first {at = at} h = let e : at + 0 ≡ at = omega arith in record { low = omega arith; high = h.inside; sized = refl; all = omega arith; laid = rw e }
-
 module _ {ws ns : List ℕ} {from n : ℕ} {work₀ work : List ℕ} {at copied t : ℕ} (h : Gathering ws ns from n work₀ at) (z : Gathers ws ns from n work₀ work at copied t) where
-  module _ (less : t < n) where
-    along_next : along_from ws ns t n ≡ buffer_of ws (get_or ns t 0) ++ along_from ws ns (t + 1) n
+  module _ (less : t < n) (b : ℕ) (b_is : b ≡ get_or ns t 0) where
+    along_next : along_from ws ns t n ≡ buffer_of ws b ++ along_from ws ns (t + 1) n
     unfolding run_along
-    along_next = ap (λ l. run_along l (buffers_of ws)) (path_next h.path t less) ∙ ap (λ l. l ++ along_from ws ns (t + 1) n) (path_buffer h.path t less)
+    along_next = rw b_is (ap (λ l. run_along l (buffers_of ws)) (path_next h.path t less) ∙ ap (λ l. l ++ along_from ws ns (t + 1) n) (path_buffer h.path t less))
 
-    split : length (along_from ws ns t n) ≡ length (buffer_of ws (get_or ns t 0)) + length (along_from ws ns (t + 1) n)
-    split = ap length along_next ∙ length-append (buffer_of ws (get_or ns t 0)) (along_from ws ns (t + 1) n)
+    split : length (along_from ws ns t n) ≡ length (buffer_of ws b) + length (along_from ws ns (t + 1) n)
+    split = ap length along_next ∙ length-append (buffer_of ws b) (along_from ws ns (t + 1) n)
 
-    pub gathers_fits : at + copied + length (buffer_of ws (get_or ns t 0)) ≤ length work₀
+    pub gathers_fits : at + copied + length (buffer_of ws b) ≤ length work₀
     gathers_fits = omega (arith, split, h.room, z.all)
 
-    pub gathers_asks : Copying ws (get_or ns t 0) work (at + copied)
-    gathers_asks = record { of = path_has h.path t less; room = omega (arith, gathers_fits, z.sized, buffer_length ws (get_or ns t 0) (path_has h.path t less)) }
+    pub gathers_asks : Copying ws b work (at + copied)
+    gathers_asks = let of : Has ws b = rw b_is (path_has h.path t less) in record { of = of; room = omega (arith, gathers_fits, z.sized, buffer_length ws b of) }
 
-    pub gathers_next : (work' : List ℕ) (r : ℕ) → Copied (buffer_of ws (get_or ns t 0)) work work' (at + copied) r → Gathers ws ns from n work₀ work' at (copied + r) (t + 1)
-    gathers_next work' r c =
-        let b = buffer_of ws (get_or ns t 0) in
+    pub gathers_next : (work' : List ℕ) (r : ℕ) → Copied (buffer_of ws b) work work' (at + copied) r → (t' : ℕ) → t' ≡ t + 1 → Gathers ws ns from n work₀ work' at (copied + r) t'
+    gathers_next work' r c t' next =
+        let es = buffer_of ws b in
         let rest = along_from ws ns (t + 1) n in
-        let fits : at + copied + length (buffer_of ws (get_or ns t 0)) ≤ length work = omega (arith, gathers_fits, z.sized) in
-        let place : at + (copied + r) ≡ at + copied + length (buffer_of ws (get_or ns t 0)) = omega (arith, c.many) in
-        record {
+        let fits : at + copied + length es ≤ length work = omega (arith, gathers_fits, z.sized) in
+        let place : at + (copied + r) ≡ at + copied + length es = omega (arith, c.many) in
+        rw next (record {
           low = omega (arith, z.low);
           high = omega arith;
-          sized = ap length c.laid ∙ length_laid work (at + copied) b fits ∙ z.sized;
+          sized = ap length c.laid ∙ length_laid work (at + copied) es fits ∙ z.sized;
           all = omega (arith, z.all, split, c.many);
-          laid = ap (λ l. laid_at l (at + (copied + r)) rest) c.laid ∙ laid_on work (at + copied) b rest (at + (copied + r)) place (omega arith)
+          laid = ap (λ l. laid_at l (at + (copied + r)) rest) c.laid ∙ laid_on work (at + copied) es rest (at + (copied + r)) place (omega arith)
               ∙ ap (laid_at work (at + copied)) (sym along_next) ∙ z.laid;
-        }
+        })
 
   pub gathers_last : n ≤ t → Copied (along_from ws ns from n) work₀ work at copied
   unfolding run_along

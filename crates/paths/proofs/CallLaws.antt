@@ -1,9 +1,10 @@
 -- What a sweep concludes: that the path which was found is a path of the array, that it may be refilled to the counts noted on it, and that this is the rules' refilling.
-use mathlib.Core.Path.{◌≡◌, refl, sym, ap, ◌∙◌}
-use mathlib.Core.List.{List, [], ◌∷◌, map}
-use Prim.Native.Nat.{ℕ, zero, suc, ◌+◌, ◌-◌, ◌*◌, ◌≤◌, ◌<◌}
+use mathlib.Core.Path.{◌≡◌, sym, ap, ◌∙◌}
+use mathlib.Core.List.{List, []}
+use Prim.Native.Nat.{ℕ, suc, ◌+◌, ◌-◌, ◌*◌, ◌≤◌, ◌<◌}
 use native.Mathlib.Omega.{arith}
 use lib.Dec.{eqb, eqb→eq, leb, leb→le}
+use Rattle.std.proofs.lemmas.List.{get_or-map}
 use lib.ListN.{length, take, drop, get_or}
 use lib.Seq.{get_or-take, drop_at, length-take-le}
 use Rattle.rules.specs.Tests.{every}
@@ -22,11 +23,6 @@ use Rattle.paths.proofs.WayLaws.{each_s, path_long, length_outputs}
 use Rattle.paths.proofs.AlongLaws.{path_has, path_buffer}
 use Rattle.paths.proofs.RefillLaws.{sum_more}
 use Rattle.paths.proofs.LayOutLaws.{s_room}
-
-map_at : (f : ℕ → ℕ) (l : List ℕ) (t : ℕ) → t < length l → get_or (map f l) t 0 ≡ f (get_or l t 0)
-map_at f [] t h = absurd (omega arith)
-map_at f (x ∷ l) zero h = refl
-map_at f (x ∷ l) (suc t) h = map_at f l t (omega arith)
 
 -- fewer links, fewer buffers
 pub count_most : {i l : ℕ} → LinkNumber l → 1 ≤ i → i ≤ l → buffer_count i ≤ buffer_count l
@@ -83,7 +79,7 @@ module _ {i : ℕ} (h : LinkNumber i) (j : ℕ) (low : 1 ≤ j) (high : j ≤ k 
       unfolding counts
       noted_at t less =
           let inside : length (take r ns) ≡ r = length-take-le r ns (omega (arith, p.long, p.few)) in
-          sym (get_or-take r cs t 0 less) ∙ ap (λ l. get_or l t 0) noted.are ∙ map_at (λ m. length (get_or (buffers_of ws₀) m [])) (take r ns) t (omega arith)
+          sym (get_or-take r cs t 0 less) ∙ ap (λ l. get_or l t 0) noted.are ∙ get_or-map (λ m. length (get_or (buffers_of ws₀) m [])) (take r ns) t 0 0 (omega arith)
           ∙ ap (λ m. length (get_or (buffers_of ws₀) m [])) (get_or-take r ns t 0 less) ∙ ap length (path_buffer (path_on ws₀ array₀ within₀) t less)
 
       noted_fits : (t : ℕ) → t < r → get_or cs t 0 ≤ capacity_of (get_or ns t 0)

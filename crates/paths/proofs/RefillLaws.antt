@@ -7,7 +7,7 @@ use native.Mathlib.Omega.{arith}
 use native.Mathlib.Decide.{dec_lt, ℕ_discrete}
 use native.Mathlib.Numerals.{add-one}
 use lib.ListN.{length, take, drop, get_or, set, length-take, length-drop, drop_of_length-le}
-use lib.Seq.{take_at, drop_at, drop-cons, drop-drop, get_or-take, length-take-le}
+use lib.Seq.{take_at, drop_at, drop-cons, get_or-take, length-take-le}
 use Rattle.rules.specs.Links.{sum, buffer_count}
 use Rattle.rules.specs.Merge.{join}
 use Rattle.rules.specs.Sweep.{refill_path}
@@ -119,25 +119,21 @@ refill_end ns cs run bs t h =
     let past : length ns ≤ suc t = omega arith in
     rw (drop-cons ns t 0 (omega arith), drop_of_length-le ns past)
 
--- t buffers are refilled: the rest gives the same answer
-pub record Refills (key : ℕ → ℕ) (ws₀ ws ns cs : List ℕ) (n : ℕ) (xs ys : List ℕ) (x y t : ℕ) : Type 0 where
+-- t buffers are refilled: what is left of the runs gives the same answer
+pub record Refills (key : ℕ → ℕ) (ws₀ ws ns cs : List ℕ) (n : ℕ) (xs₀ ys₀ xs ys : List ℕ) (t : ℕ) : Type 0 where
   pub within : t + 1 ≤ n
-  pub of_first : x ≤ length xs
-  pub of_second : y ≤ length ys
-  pub gone : x + y ≡ sum (take t cs)
+  pub left : length xs + length ys + sum (take t cs) ≡ length xs₀ + length ys₀
   pub array : Inside ws
   pub kept : Kept ws₀ ws
-  pub state : refill_path (drop t (take n ns)) (drop t (take n cs)) (join key (drop x xs) (drop y ys)) (buffers_of ws) ≡ refill_path (take n ns) (take n cs) (join key xs ys) (buffers_of ws₀)
+  pub state : refill_path (drop t (take n ns)) (drop t (take n cs)) (join key xs ys) (buffers_of ws) ≡ refill_path (take n ns) (take n cs) (join key xs₀ ys₀) (buffers_of ws₀)
   pub words : (u : ℕ) → u < t → Word ws (get_or ns u 0) 0 0
   pub others : (m : ℕ) → m < many ws₀ → ((u : ℕ) → u < n → m ≢ get_or ns u 0) → word_of ws m ≡ word_of ws₀ m
 
-pub refills_first : {key : ℕ → ℕ} {ws ns cs : List ℕ} {n : ℕ} {xs ys : List ℕ} → Refilling ws ns cs n xs ys → Refills key ws ws ns cs n xs ys 0 0 0
+pub refills_first : {key : ℕ → ℕ} {ws ns cs : List ℕ} {n : ℕ} {xs ys : List ℕ} → Refilling ws ns cs n xs ys → Refills key ws ws ns cs n xs ys xs ys 0
 unfolding sum
 refills_first {ws} h = record {
   within = h.some;
-  of_first = omega arith;
-  of_second = omega arith;
-  gone = refl;
+  left = omega arith;
   array = h.path.array;
   kept = kept_none ws;
   state = refl;
@@ -155,12 +151,9 @@ words_more ws ws' n m h only w less old = go (ℕ_discrete m n)
         let same = only_word ws ws' n h only m less differ in
         record { mark = ap mark_in same ∙ old.mark; start = ap start_in same ∙ old.start }
 
-module _ {key : ℕ → ℕ} {ws₀ ws ns cs : List ℕ} {n : ℕ} {xs ys : List ℕ} {x y t : ℕ} (h : Refilling ws₀ ns cs n xs ys) (z : Refills key ws₀ ws ns cs n xs ys x y t) where
+module _ {key : ℕ → ℕ} {ws₀ ws ns cs : List ℕ} {n : ℕ} {xs₀ ys₀ xs ys : List ℕ} {t : ℕ} (h : Refilling ws₀ ns cs n xs₀ ys₀) (z : Refills key ws₀ ws ns cs n xs₀ ys₀ xs ys t) (b : ℕ) (b_is : b ≡ get_or ns t 0) where
   same_many : many ws ≡ many ws₀
   same_many = ap buffer_count (kept_links z.kept)
-
-  here : (u : ℕ) → u < n → Has ws (get_or ns u 0)
-  here u less = has ws (get_or ns u 0) z.array (rw same_many (h.path.each u less))
 
   long_ns : length (take n ns) ≡ n
   long_ns = length-take-le n ns (omega (arith, h.path.long, h.path.few))
@@ -168,73 +161,80 @@ module _ {key : ℕ → ℕ} {ws₀ ws ns cs : List ℕ} {n : ℕ} {xs ys : List
   long_cs : length (take n cs) ≡ n
   long_cs = length-take-le n cs (omega (arith, h.noted, h.path.few))
 
-  left_first : length (drop x xs) ≡ length xs - x
-  left_first = length-drop x xs
+  -- buffer t of the path, b, is one of the array
+  here : t < n → Has ws b
+  here less = has ws b z.array (rw (b_is, same_many) (h.path.each t less))
 
-  left_second : length (drop y ys) ≡ length ys - y
-  left_second = length-drop y ys
+  -- it has been given its entries: the words of those of the path that have theirs, and of those that are not on it
+  words_at : (ws' : List ℕ) → t < n → Only ws ws' b → Word ws' b 0 0 → (u : ℕ) → u < t + 1 → Word ws' (get_or ns u 0) 0 0
+  words_at ws' less only word u before = go (dec_lt u t)
+    where
+      go : Dec (u < t) → Word ws' (get_or ns u 0) 0 0
+      go (yes early) = words_more ws ws' b (get_or ns u 0) (here less) only word (rw same_many (h.path.each u (omega arith))) (z.words u early)
+      go (no late) = let e : u ≡ t = omega arith in rw (e, ← b_is) word
 
-  module _ (more : t + 1 < n) where
-    now_gone : x + y + get_or cs t 0 ≤ length xs + length ys
-    now_gone = omega (arith, z.gone, sum_more cs t (omega (arith, h.noted, h.path.few)), sum_most cs (t + 1) (n - 1) (omega arith), h.enough)
+  others_at : (ws' : List ℕ) → t < n → Only ws ws' b → (m : ℕ) → m < many ws₀ → ((u : ℕ) → u < n → m ≢ get_or ns u 0) → word_of ws' m ≡ word_of ws₀ m
+  others_at ws' less only m inside other =
+      let differs : m ≢ b = rw b_is (other t less) in
+      only_word ws ws' b (here less) only m (rw same_many inside) differs ∙ z.others m inside other
 
-    pub refills_asks : Filling ws (get_or ns t 0) (get_or cs t 0) (drop x xs) (drop y ys)
-    refills_asks = record { of = here t (omega arith); room = h.fits t more; enough = omega (arith, now_gone, left_first, left_second, z.of_first, z.of_second) }
+  module _ (more : t + 1 < n) (m : ℕ) (m_is : m ≡ get_or cs t 0) where
+    more_left : m ≤ length xs + length ys
+    more_left = omega (arith, m_is, z.left, sum_more cs t (omega (arith, h.noted, h.path.few)), sum_most cs (t + 1) (n - 1) (omega arith), h.enough)
 
-    pub refills_next : (ws' : List ℕ) (r : ℕ) → Filled key ws ws' (get_or ns t 0) (get_or cs t 0) (drop x xs) (drop y ys) r
-        → Refills key ws₀ ws' ns cs n xs ys (x + r) (y + (get_or cs t 0 - r)) (t + 1)
-    refills_next ws' r f =
-        let k = get_or ns t 0 in
-        let m = get_or cs t 0 in
-        let run = join key (drop x xs) (drop y ys) in
-        let of = here t (omega arith) in
-        let e₁ : get_or (take n ns) t 0 ≡ get_or ns t 0 = get_or-take n ns t 0 (omega arith) in
-        let e₂ : get_or (take n cs) t 0 ≡ get_or cs t 0 = get_or-take n cs t 0 (omega arith) in
-        let step : refill_path (drop t (take n ns)) (drop t (take n cs)) run (buffers_of ws) ≡ refill_path (drop (t + 1) (take n ns)) (drop (t + 1) (take n cs)) (drop m run) (set (buffers_of ws) k (take m run)) =
+    pub refills_asks : Filling ws b m xs ys
+    refills_asks = record { of = here (omega arith); room = rw (b_is, m_is) (h.fits t more); enough = more_left }
+
+    pub refills_next : (ws' : List ℕ) (r : ℕ) → Filled key ws ws' b m xs ys r → (xs' ys' : List ℕ) → xs' ≡ drop r xs → ys' ≡ drop (m - r) ys → Refills key ws₀ ws' ns cs n xs₀ ys₀ xs' ys' (t + 1)
+    refills_next ws' r f xs' ys' xs_is ys_is =
+        let run = join key xs ys in
+        let of = here (omega arith) in
+        let e₁ : get_or (take n ns) t 0 ≡ b = get_or-take n ns t 0 (omega arith) ∙ sym b_is in
+        let e₂ : get_or (take n cs) t 0 ≡ m = get_or-take n cs t 0 (omega arith) ∙ sym m_is in
+        let step : refill_path (drop t (take n ns)) (drop t (take n cs)) run (buffers_of ws) ≡ refill_path (drop (t + 1) (take n ns)) (drop (t + 1) (take n cs)) (drop m run) (set (buffers_of ws) b (take m run)) =
         refill_step (take n ns) (take n cs) run (buffers_of ws) t (omega (arith, long_ns)) (omega (arith, long_cs)) ∙ rw (e₁, e₂) in
-        let rests : drop m run ≡ join key (drop (x + r) xs) (drop (y + (m - r)) ys) = f.rest ∙ rw (drop-drop r x xs, drop-drop (m - r) y ys) in
+        let rests : drop m run ≡ join key xs' ys' = f.rest ∙ rw (← xs_is, ← ys_is) in
         record {
           within = omega arith;
-          of_first = omega (arith, f.of_first, left_first, z.of_first);
-          of_second = omega (arith, f.of_second, left_second, z.of_second);
-          gone = omega (arith, z.gone, f.of_both, sum_more cs t (omega (arith, h.noted, h.path.few)));
+          left = omega (
+            arith,
+            z.left,
+            m_is,
+            f.of_first,
+            f.of_both,
+            f.of_second,
+            ap length xs_is,
+            ap length ys_is,
+            length-drop r xs,
+            length-drop (m - r) ys,
+            sum_more cs t (omega (arith, h.noted, h.path.few)),
+          );
           array = f.holds.array;
-          kept = kept_then z.kept (only_kept ws ws' k of f.holds.only);
+          kept = kept_then z.kept (only_kept ws ws' b of f.holds.only);
           state = rw (← rests, f.holds.state) (sym step ∙ z.state);
-          words = λ u less. words_at u less (dec_lt u t);
-          others = λ b less other. only_word ws ws' k of f.holds.only b (rw same_many less) (other t (omega arith)) ∙ z.others b less other;
+          words = words_at ws' (omega arith) f.holds.only f.word;
+          others = others_at ws' (omega arith) f.holds.only;
         }
-      where
-        words_at : (u : ℕ) → u < t + 1 → Dec (u < t) → Word ws' (get_or ns u 0) 0 0
-        words_at u less (yes before) = words_more ws ws' (get_or ns t 0) (get_or ns u 0) (here t (omega arith)) f.holds.only f.word (rw same_many (h.path.each u (omega arith))) (z.words u before)
-        words_at u less (no later) = let e : u ≡ t = omega arith in rw e f.word
 
-  module _ (all : n ≤ t + 1) where
-    is_last : n ≡ t + 1
-    is_last = omega (arith, z.within)
-
-    pub refills_ask_last : Ending ws (get_or ns t 0) (drop x xs) (drop y ys)
+  module _ (last : t + 1 ≡ n) where
+    pub refills_ask_last : Ending ws b xs ys
     refills_ask_last =
-        let e : n - 1 ≡ t = omega (arith, is_last) in
-        let room : length xs + length ys ≤ sum (take t cs) + capacity_of (get_or ns t 0) = rw e at h.room in
-        record { of = here t (omega (arith, is_last)); room = omega (arith, left_first, left_second, z.gone, z.of_first, z.of_second) }
+        let e : n - 1 ≡ t = omega arith in
+        let room : length xs₀ + length ys₀ ≤ sum (take t cs) + capacity_of (get_or ns t 0) = rw e at h.room in
+        let here_room : length xs₀ + length ys₀ ≤ sum (take t cs) + capacity_of b = rw b_is room in
+        record { of = here (omega arith); room = omega (arith, z.left) }
 
-    pub refills_last : (ws' : List ℕ) → Ended key ws ws' (get_or ns t 0) (drop x xs) (drop y ys) → Refilled key ws₀ ws' ns cs n xs ys
+    pub refills_last : (ws' : List ℕ) → Ended key ws ws' b xs ys → Refilled key ws₀ ws' ns cs n xs₀ ys₀
     refills_last ws' f =
-        let k = get_or ns t 0 in
-        let run = join key (drop x xs) (drop y ys) in
-        let of = here t (omega (arith, is_last)) in
-        let e : get_or (take n ns) t 0 ≡ get_or ns t 0 = get_or-take n ns t 0 (omega (arith, is_last)) in
-        let end : refill_path (drop t (take n ns)) (drop t (take n cs)) run (buffers_of ws) ≡ set (buffers_of ws) k run =
-        refill_end (take n ns) (drop t (take n cs)) run (buffers_of ws) t (omega (arith, long_ns, is_last)) ∙ rw e in
+        let run = join key xs ys in
+        let of = here (omega arith) in
+        let e : get_or (take n ns) t 0 ≡ b = get_or-take n ns t 0 (omega arith) ∙ sym b_is in
+        let end : refill_path (drop t (take n ns)) (drop t (take n cs)) run (buffers_of ws) ≡ set (buffers_of ws) b run =
+        refill_end (take n ns) (drop t (take n cs)) run (buffers_of ws) t (omega (arith, long_ns)) ∙ rw e in
         record {
           array = f.holds.array;
-          kept = kept_then z.kept (only_kept ws ws' k of f.holds.only);
+          kept = kept_then z.kept (only_kept ws ws' b of f.holds.only);
           state = f.holds.state ∙ sym end ∙ z.state;
-          words = λ u less. words_at u less (dec_lt u t);
-          others = λ b less other. only_word ws ws' k of f.holds.only b (rw same_many less) (other t (omega (arith, is_last))) ∙ z.others b less other;
+          words = λ u less. words_at ws' (omega arith) f.holds.only f.word u (omega arith);
+          others = others_at ws' (omega arith) f.holds.only;
         }
-      where
-        words_at : (u : ℕ) → u < n → Dec (u < t) → Word ws' (get_or ns u 0) 0 0
-        words_at u less (yes before) = words_more ws ws' (get_or ns t 0) (get_or ns u 0) (here t (omega (arith, is_last))) f.holds.only f.word (rw same_many (h.path.each u less)) (z.words u before)
-        words_at u less (no later) = let e : u ≡ t = omega (arith, is_last) in rw e f.word

@@ -1,5 +1,5 @@
 -- A run laid into the S of the last link, all other buffers being emptied.
-use Rattle.std.specs.Prelude.{◌≡◌, ℕ, ◌+◌, ◌≤◌, ◌<◌, List, [], length, take, replicate}
+use Rattle.std.specs.Prelude.{◌≡◌, ℕ, ◌≤◌, ◌<◌, List, [], length, take, replicate}
 use Rattle.rules.specs.Links.{book_words, LinkNumber}
 use Rattle.rules.specs.Sweep.{laid_out}
 use Rattle.buffers.specs.Slots.{capacity_of}
@@ -22,13 +22,6 @@ pub record Empty (ws ws' : List ℕ) (end : ℕ) : Type 0 where
   pub kept : Kept ws ws'
   pub none : take end (buffers_of ws') ≡ replicate end []
   pub words : (n : ℕ) → n < end → Word ws' n 0 0
-
--- a part of a run from a place on: so many entries, or those that are left
-pub record PartEnd (at size all r : ℕ) : Type 0 where
-  pub low : at ≤ r
-  pub inside : r ≤ all
-  pub most : r ≤ at + size
-  pub rest : r < at + size → all ≤ r
 
 pub record LayingOut (ws : List ℕ) (links : ℕ) : Type 0 where
   pub array : Inside ws

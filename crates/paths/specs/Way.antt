@@ -1,16 +1,19 @@
 -- A path in an array: what asks for it, and what is then known of it.
-use Rattle.std.specs.Prelude.{◌≡◌, ℕ, ◌-◌, ◌≤◌, List, length, take}
+use Rattle.std.specs.Prelude.{◌≡◌, ℕ, ◌-◌, ◌≤◌, List, length, take, map}
+use Rattle.paths.specs.declared.Step.{Step}
 use Rattle.rules.specs.Links.{k, path_room, book_words, LinkNumber}
 use Rattle.rules.specs.Sweep.{outputs, path}
 
--- a link, and room for a path
-pub record Before (i : ℕ) (ns : List ℕ) : Type 0 where
-  pub link : LinkNumber i
-  pub long : length ns ≡ path_room
+-- the buffers of some steps, by their numbers, and the counts noted on them
+abbrev pub numbers_of : List Step → List ℕ
+numbers_of steps = map (λ (step : Step). step.buffer) steps
 
--- an S of it; each buffer has a word in the book, so that the code's sums fit
-pub record Ends (i j : ℕ) (ns : List ℕ) : Type 0 where
-  pub way : Before i ns
+abbrev pub counts_of : List Step → List ℕ
+counts_of steps = map (λ (step : Step). step.count) steps
+
+-- an S of a link; each buffer has a word in the book, so that the code's sums fit
+pub record Ends (i j : ℕ) : Type 0 where
+  pub link : LinkNumber i
   pub low : 1 ≤ j
   pub high : j ≤ k i
   pub few : k i ≤ book_words

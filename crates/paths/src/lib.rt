@@ -3,7 +3,7 @@
 
 ghost use Rattle.std.specs.Prelude.{◌≡◌, ◌+◌, ◌≤◌, ◌<◌, length};
 ghost use Rattle.rules.specs.Entries.{key_by};
-ghost use Rattle.rules.specs.Links.{all_buffers};
+ghost use Rattle.rules.specs.Links.{all_buffers, LinkNumber};
 ghost use Rattle.rules.specs.Insert.{placed};
 ghost use Rattle.rules.specs.Merge.{join};
 ghost use Rattle.buffers.specs.Format.{buffer_of};
@@ -11,33 +11,25 @@ ghost use Rattle.buffers.specs.Slots.{base};
 ghost use Rattle.buffers.specs.Post.{Now, Word};
 ghost use Rattle.runs.specs.Promises.{laid_at, stretch};
 ghost use Rattle.paths.specs.Along.{Number, LinkOf, Noting, Noted, Copying, Copied, along_from, Gathering};
-ghost use Rattle.paths.specs.Laying.{Lays, Emptying, Empty, PartEnd, LayingOut, LaidOut};
+ghost use Rattle.paths.specs.Laying.{Lays, Emptying, Empty, LayingOut, LaidOut};
 ghost use Rattle.paths.specs.Placing.{Holds, Placing};
 ghost use Rattle.paths.specs.Refills.{Filling, Filled, Ending, Ended, Refilling, Refilled};
-ghost use Rattle.paths.specs.Way.{Before, Ends, OutputsAre, PathIs};
+ghost use Rattle.paths.specs.Way.{numbers_of, counts_of, Ends, OutputsAre, PathIs};
 
 use rules::{Link, Rule};
 
-// Places the entry before the first larger one of the count entries from start on, and lays them all at the beginning. What is held goes before what is read next.
+// Places the entry before the first larger one of the count entries from start on, and lays them all at the beginning: what goes before it moves first, then what stands behind it.
 fn place_in(rule: Rule, slots: &mut [u64], start: usize, count: usize, entry: u64)
     requires { Holds slots.old start count }
     ensures { slots.new ≡ laid_at slots.old 0 (placed (key_by rule) entry (stretch start (start + count) slots.old)) }
 {
-    let mut t: usize = 0;
-    let mut held = entry;
-    let mut ahead = true;
-    while t < count {
-        let x = slots[start + t];
-        if ahead && runs::goes_first(rule, x, held) {
-            slots[t] = x;
-        } else {
-            slots[t] = held;
-            held = x;
-            ahead = false;
-        }
-        t += 1;
-    }
-    slots[count] = held;
+    let before = slots[start..start + count]
+        .iter()
+        .take_while(|x| runs::goes_first(rule, **x, entry))
+        .count();
+    slots.copy_within(start..start + before, 0);
+    slots.copy_within(start + before..start + count, before + 1);
+    slots[before] = entry;
 }
 
 // "place the entry in I before the first larger one": I then begins at its first slot.
@@ -53,36 +45,37 @@ pub fn place_entry(rule: Rule, a: &mut [u64], entry: u64)
     buffers::settle(a, 0, count + 1);
 }
 
-// The numbers of A(1), A(2) .. A(i-1), at the beginning of path.
-fn outputs_before(i: usize, path: &mut [usize; Link::PATH])
-    requires { Before i path.old }
-    ensures { OutputsAre i path.new }
-{
-    let mut n: usize = 0;
-    while n + 1 < i {
-        path[n] = Link::at(n + 1).first();
-        n += 1;
+// A buffer on a path, by its number, and the count that is noted on it.
+#[derive(Clone, Copy)]
+pub struct Step {
+    pub buffer: usize,
+    pub count: usize,
+}
+
+impl Step {
+    // To a buffer; no count is noted yet.
+    fn to(buffer: usize) -> Self
+        ensures { result.buffer ≡ buffer }
+    {
+        Self { buffer, count: 0 }
     }
 }
 
-// The numbers of the path from A(1) to S(i,j), at the beginning of path. Answers how many.
-pub fn path_to(i: usize, j: usize, path: &mut [usize; Link::PATH]) -> usize
-    requires { Ends i j path.old }
-    ensures { PathIs i j path.new result }
+// A path from A(1) down to an S: its first steps, as many as length says.
+#[derive(Drop)]
+pub struct Path {
+    pub steps: [Step; Link::PATH],
+    pub length: usize,
+}
+
+// The numbers of A(1), A(2) .. A(i-1), at the beginning of the steps.
+fn outputs_before(i: usize, steps: &mut [Step; Link::PATH])
+    requires { LinkNumber i }
+    ensures { OutputsAre i (numbers_of steps.new) }
 {
-    outputs_before(i, path);
-    let first = Link::at(i).first();
-    let k = Link::at(i).k();
-    let last = k + (j - 1);
-    // the number above the last by a level is its half, above B (1) stands A (0)
-    let mut above = 2 * k;
-    let mut n = i - 1;
-    while 0 < above {
-        path[n] = first + last / above;
-        above = above / 2;
-        n += 1;
+    for n in 1..i {
+        steps[n - 1] = Step::to(Link::at(n).first());
     }
-    n
 }
 
 // The link of buffer n, which is not I.
@@ -90,11 +83,12 @@ fn link_of(n: usize) -> usize
     requires { Number n }
     ensures { LinkOf n result }
 {
-    let mut i = Link::MOST;
-    while n < Link::at(i).first() {
-        i = i - 1;
+    for i in (2..=Link::MOST).rev() {
+        if Link::at(i).first() <= n {
+            return i;
+        }
     }
-    i
+    1
 }
 
 // The word at which buffer n's slots begin.
@@ -105,54 +99,19 @@ pub fn base_of(n: usize) -> usize
     if n == 0 {
         return Link::BOOK;
     }
-    let i = link_of(n);
-    let j = n - Link::at(i).first();
-    Link::BOOK + Link::at(i).slot(j)
-}
-
-// "Note the counts on it": on the n buffers of the path.
-pub fn note(a: &[u64], path: &[usize; Link::PATH], n: usize, counts: &mut [usize; Link::PATH])
-    requires { Noting a.now path.now n counts.old }
-    ensures { Noted a.now path.now n counts.new }
-{
-    let mut t: usize = 0;
-    while t < n {
-        counts[t] = buffers::count(a, path[t]);
-        t += 1;
-    }
+    let link = Link::at(link_of(n));
+    Link::BOOK + link.slot(n - link.first())
 }
 
 // Copies the entries of buffer n into the work area from a place on. Answers how many.
+#[tactic(auto, using(buffers::proofs::ArrayLaws::buffer_length))]
 pub fn copy_out(a: &[u64], n: usize, work: &mut [u64], at: usize) -> usize
     requires { Copying a.now n work.old at }
     ensures { Copied (buffer_of a.now n) work.old work.new at result }
 {
-    let count = buffers::count(a, n);
-    let from = base_of(n) + buffers::start_place(a, n);
-    let end = from + count;
-    runs::lay(work, at, &a[from..end]);
-    count
-}
-
-// "the run read along the path", from one place of the path on: copies it into the work area. Answers how many entries it has.
-pub fn gather(
-    a: &[u64],
-    path: &[usize; Link::PATH],
-    from: usize,
-    n: usize,
-    work: &mut [u64],
-    at: usize,
-) -> usize
-    requires { Gathering a.now path.now from n work.old at }
-    ensures { Copied (along_from a.now path.now from n) work.old work.new at result }
-{
-    let mut copied: usize = 0;
-    let mut t = from;
-    while t < n {
-        copied = copied + copy_out(a, path[t], work, at + copied);
-        t += 1;
-    }
-    copied
+    let run = buffers::entries(a, n, base_of(n));
+    runs::lay(work, at, run);
+    run.len()
 }
 
 // Buffer n gets the next m entries of two runs that are joined, in its own slots. Answers how many are the first run's.
@@ -161,13 +120,13 @@ pub fn refill_one(rule: Rule, a: &mut [u64], n: usize, m: usize, xs: &[u64], ys:
     ensures { Filled (key_by rule) a.old a.new n m xs.now ys.now result }
 {
     let at = base_of(n);
-    let end = at + m;
-    let first = runs::part(rule, xs, ys, &mut a[at..end]);
+    let first = runs::part(rule, xs, ys, &mut a[at..at + m]);
     buffers::settle(a, n, m);
     first
 }
 
 // Joins two runs into a stretch of slots, and lays what the joining hands back behind it.
+#[tactic(auto, using(crate::proofs::RefillLaws::join_room, runs::proofs::PromiseLaws::joins_laid))]
 fn join_into<'a>(rule: Rule, xs: &'a [u64], ys: &'a [u64], stretch: &mut [u64])
     requires { length xs.now + length ys.now ≤ length stretch.old }
     ensures { stretch.new ≡ laid_at stretch.old 0 (join (key_by rule) xs.now ys.now) }
@@ -184,35 +143,79 @@ pub fn refill_last<'a>(rule: Rule, a: &mut [u64], n: usize, xs: &'a [u64], ys: &
 {
     let at = base_of(n);
     let all = xs.len() + ys.len();
-    let end = at + all;
-    join_into(rule, xs, ys, &mut a[at..end]);
+    join_into(rule, xs, ys, &mut a[at..at + all]);
     buffers::settle(a, n, all);
 }
 
-// "Refill each path buffer from A(1) downwards to its noted count. The rest goes into S", the last of n: what goes in is xs joined with ys, at equal heads xs's first.
-pub fn refill<'a>(
-    rule: Rule,
-    a: &mut [u64],
-    path: &[usize; Link::PATH],
-    counts: &[usize; Link::PATH],
-    n: usize,
-    xs: &'a [u64],
-    ys: &'a [u64],
-)
-    requires { Refilling a.old path.now counts.now n xs.now ys.now }
-    ensures { Refilled (key_by rule) a.old a.new path.now counts.now n xs.now ys.now }
-{
-    let mut x: usize = 0;
-    let mut y: usize = 0;
-    let mut t: usize = 0;
-    while t + 1 < n {
-        let m = counts[t];
-        let first = refill_one(rule, a, path[t], m, &xs[x..], &ys[y..]);
-        x = x + first;
-        y = y + (m - first);
-        t += 1;
+impl Path {
+    // Room for a path; it leads nowhere yet.
+    pub fn new() -> Self
+        ensures { result.length ≡ 0 }
+    {
+        Self {
+            steps: [Step::to(0); Link::PATH],
+            length: 0,
+        }
     }
-    refill_last(rule, a, path[t], &xs[x..], &ys[y..]);
+
+    // Makes it the path from A(1) to S(i,j).
+    pub fn lead_to(&mut self, i: usize, j: usize)
+        requires { Ends i j }
+        ensures { PathIs i j (numbers_of self.new.steps) self.new.length }
+    {
+        outputs_before(i, &mut self.steps);
+        let length = 2 * i + 1;
+        self.length = length;
+        let link = Link::at(i);
+        let first = link.first();
+        let k = link.k();
+        let last = k + (j - 1);
+        // the number above the last by a level is its half, above B (1) stands A (0)
+        let mut above = 2 * k;
+        for step in &mut self.steps[i - 1..length] {
+            *step = Step::to(first + last / above);
+            above /= 2;
+        }
+    }
+
+    // "Note the counts on it."
+    pub fn note(&mut self, a: &[u64])
+        requires { Noting a.now (numbers_of self.old.steps) self.old.length (counts_of self.old.steps) }
+        ensures length { self.new.length ≡ self.old.length }
+        ensures numbers { numbers_of self.new.steps ≡ numbers_of self.old.steps }
+        ensures noted { Noted a.now (numbers_of self.new.steps) self.new.length (counts_of self.new.steps) }
+    {
+        let length = self.length;
+        for step in &mut self.steps[..length] {
+            step.count = buffers::count(a, step.buffer);
+        }
+    }
+
+    // "the run read along the path", from one place of the path on: copies it into the work area. Answers how many entries it has.
+    pub fn gather(&self, a: &[u64], from: usize, work: &mut [u64], at: usize) -> usize
+        requires { Gathering a.now (numbers_of self.now.steps) from self.now.length work.old at }
+        ensures { Copied (along_from a.now (numbers_of self.now.steps) from self.now.length) work.old work.new at result }
+    {
+        let mut copied: usize = 0;
+        for step in &self.steps[from..self.length] {
+            copied += copy_out(a, step.buffer, work, at + copied);
+        }
+        copied
+    }
+
+    // "Refill each path buffer from A(1) downwards to its noted count. The rest goes into S", the last of the path: what goes in is xs joined with ys, at equal heads xs's first.
+    pub fn refill<'a>(&self, rule: Rule, a: &mut [u64], mut xs: &'a [u64], mut ys: &'a [u64])
+        requires { Refilling a.old (numbers_of self.now.steps) (counts_of self.now.steps) self.now.length xs.now ys.now }
+        ensures { Refilled (key_by rule) a.old a.new (numbers_of self.now.steps) (counts_of self.now.steps) self.now.length xs.now ys.now }
+    {
+        let last = self.length - 1;
+        for step in &self.steps[..last] {
+            let first = refill_one(rule, a, step.buffer, step.count, xs, ys);
+            xs = &xs[first..];
+            ys = &ys[step.count - first..];
+        }
+        refill_last(rule, a, self.steps[last].buffer, xs, ys);
+    }
 }
 
 // Buffer n gets a run, in its own slots.
@@ -231,19 +234,9 @@ fn empty_before(a: &mut [u64], end: usize)
     requires { Emptying a.old end }
     ensures { Empty a.old a.new end }
 {
-    let mut n: usize = 0;
-    while n < end {
+    for n in 0..end {
         buffers::settle(a, n, 0);
-        n += 1;
     }
-}
-
-// Where a part of so many entries ends in a run: where the run ends, if fewer are left.
-fn part_end(at: usize, size: usize, all: usize) -> usize
-    requires { at ≤ all }
-    ensures { PartEnd at size all result }
-{
-    if size <= all - at { at + size } else { all }
 }
 
 // "lay it in order into S(L,1), S(L,2), .., s(L) entries each. All other buffers are empty."
@@ -251,16 +244,15 @@ pub fn lay_out(a: &mut [u64], links: usize, run: &[u64])
     requires { LayingOut a.old links }
     ensures { LaidOut a.old a.new links run.now }
 {
-    let k = Link::at(links).k();
-    let size = Link::at(links).s();
-    let first = Link::at(links).first() + k;
+    let link = Link::at(links);
+    let k = link.k();
+    let size = link.s();
+    let first = link.first() + k;
     empty_before(a, first);
-    let mut at: usize = 0;
-    let mut j: usize = 0;
-    while j < k {
-        let end = part_end(at, size, run.len());
-        lay_run(a, first + j, &run[at..end]);
-        at = end;
-        j += 1;
+    let mut left = run;
+    for n in first..first + k {
+        let (part, rest) = left.split_at(size.min(left.len()));
+        lay_run(a, n, part);
+        left = rest;
     }
 }

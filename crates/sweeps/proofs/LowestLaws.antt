@@ -31,9 +31,6 @@ pub record Searching (ws : List ℕ) (links i : ℕ) : Type 0 where
   pub high : i ≤ links + 1
   pub same : lowest_of ws i (suc links - i) ≡ lowest_of ws 1 links
 
-pub search_first : (ws : List ℕ) (links : ℕ) → Searching ws links 1
-search_first ws links = let e : suc links - 1 ≡ links = omega arith in record { low = omega arith; high = omega arith; same = ap (lowest_of ws 1) e }
-
 module _ (ws : List ℕ) (links i : ℕ) (z : Searching ws links i) where
   module _ (more : i ≤ links) (c j k' : ℕ) (c_is : c ≡ counter_in ws i) (j_is : j ≡ i) (k_is : k' ≡ k j) where
     here : (b : Bool) → leb c k' ≡ b → lowest_of ws i (suc links - i) ≡ elim b [ true ↦ i | false ↦ lowest_of ws (suc i) (links - i) ]
@@ -54,6 +51,9 @@ module _ (ws : List ℕ) (links i : ℕ) (z : Searching ws links i) where
           same = ap (lowest_of ws (i + 1)) left ∙ ap (λ n. lowest_of ws n (links - i)) (add-one i) ∙ sym (here false (lt-leb c k' h)) ∙ z.same;
         }
 
-  pub search_none : links ≡ links_in ws → links < i → i ≡ lowest 1 (book_of ws).counters
+  pub search_none : links ≡ links_in ws → links < i → links < lowest 1 (book_of ws).counters
   unfolding book_of
-  search_none of past = let left : suc links - i ≡ 0 = omega arith in sym (none_of ws i) ∙ ap (lowest_of ws i) (sym left) ∙ z.same ∙ ap (lowest_of ws 1) of
+  search_none of past =
+      let left : suc links - i ≡ 0 = omega arith in
+      let last : i ≡ lowest_of ws 1 (links_in ws) = sym (none_of ws i) ∙ ap (lowest_of ws i) (sym left) ∙ z.same ∙ ap (lowest_of ws 1) of in
+      omega arith

@@ -1,12 +1,14 @@
 -- Packing: all is taken out, laid into the S of the last link, and counted there.
-use Prim.Native.Nat.{ℕ, suc, ◌+◌, ◌-◌, ◌^◌, ◌/◌, ◌≤◌, ◌<◌}
+use Prim.Native.Nat.{ℕ, suc, ◌+◌, ◌-◌, ◌/◌, ◌≤◌, ◌<◌}
 use mathlib.Core.Path.{◌≡◌, sym, ap, ◌∙◌, subst}
 use mathlib.Core.Logic.{inr}
 use mathlib.Core.Bool.{true}
 use mathlib.Core.List.{List, [], ◌∷◌, ◌++◌, map}
 use native.Mathlib.Omega.{arith}
 use native.Mathlib.Decide.{dec_lt}
-use native.Mathlib.Nat.{div-lt_iff_lt-mul}
+use native.Mathlib.Nat.{div-eq_of_lt-le}
+use Rattle.std.specs.Int.{div_ceil}
+use Rattle.std.proofs.lemmas.Grind.{div_ceil_times}
 use native.Mathlib.Numerals.{add-one}
 use lib.ListN.{length, get_or, take, drop, replicate, length-append, length-replicate, get_or-replicate, get_or-append}
 use lib.Seq.{ext_get_or, get_or_at, take-append_seam, length-take-le}
@@ -20,7 +22,6 @@ use Rattle.rules.specs.Sweep.{laid_out, packed_counters}
 use Rattle.rules.specs.Insert.{Inserted, packed}
 use Rattle.rules.specs.Calls.{queue_of}
 use Rattle.rules.proofs.Sizes.{s_least}
-use Rattle.rules.proofs.Table.{s_most}
 use Rattle.rules.proofs.Numbering.{tree_roomy, tree_range}
 use Rattle.rules.proofs.TakeLaws.{take_all_empties}
 use Rattle.rules.proofs.BookKept.{beside_tree}
@@ -33,11 +34,11 @@ use Rattle.buffers.proofs.KeyLaws.{key_given}
 use Rattle.buffers.proofs.CounterLaws.{has_counter, put_word, put_inside, put_buffers}
 use Rattle.mergers.specs.Fills.{MarksRight}
 use Rattle.runs.proofs.LayingLaws.{length_laid, laid_outside}
-use Rattle.paths.specs.Laying.{LayingOut, LaidOut}
+use Rattle.paths.specs.Laying.{LaidOut}
 use Rattle.takes.specs.Heads.{CanTake}
-use Rattle.takes.specs.Emptying.{CanEmpty, TookAll}
+use Rattle.takes.specs.Emptying.{TookAll}
 use Rattle.sweeps.specs.Room.{CanPack, MadeRoom}
-use Rattle.takes.proofs.EmptyLaws.{all_held, total_small}
+use Rattle.takes.proofs.EmptyLaws.{all_held}
 use Rattle.sweeps.proofs.MarkLaws.{unmarked}
 
 -- ---- the counters
@@ -66,6 +67,12 @@ counters_are f links n low last before =
     go m less (no past) =
         let here : 1 + m ≡ links = omega arith in
         ap f here ∙ last ∙ sym (get_or_at ones end [] 0 m (omega (arith, ones_long)))
+
+-- the library's rounding up is the rules'
+rounded_up : (n size : ℕ) → 1 ≤ size → div_ceil n size ≡ (n + (size - 1)) / size
+rounded_up n size least =
+    let up = div_ceil_times n size least in
+    sym (div-eq_of_lt-le size (omega (arith, up.1)) (omega (arith, up.0)))
 
 -- ---- the rules' packing, in links of the array
 
@@ -96,9 +103,6 @@ module _ {rule : Rule} {ws : List ℕ} {links : ℕ} {work : List ℕ} (h : CanP
   room_for_most : most links ≤ length work
   room_for_most = subst (λ l. most l ≤ length work) h.of h.moves.room
 
-  pub pack_empties : CanEmpty ws links work
-  pack_empties = record { can = can_take_all; room = omega (arith, few_held, room_for_most) }
-
   abbrev out : List ℕ
   out = (take_all key (links_from 1 links) (buffers_of ws)).out
 
@@ -128,9 +132,6 @@ module _ {rule : Rule} {ws : List ℕ} {links : ℕ} {work : List ℕ} (h : CanP
     work_past : (p : ℕ) → most links ≤ p → get_or work₁ p 0 ≡ get_or work p 0
     work_past p past = ap (λ w. get_or w p 0) z.out ∙ laid_outside work 0 out p (omega (arith, z.all, pack_few, room_for_most)) (inr (omega (arith, z.all, pack_few)))
 
-    pub pack_lays : LayingOut ws₁ links
-    pack_lays = record { array = z.can.array; of = kept_links z.kept ∙ h.of; link = link }
-
     -- ---- sizes
 
     module _ {j size : ℕ} (j_is : j ≡ links) (size_is : size ≡ s j) where
@@ -139,12 +140,6 @@ module _ {rule : Rule} {ws : List ℕ} {links : ℕ} {work : List ℕ} (h : CanP
 
       pub pack_size : 1 ≤ size
       pack_size = omega (arith, size_now, s_least links link.low)
-
-      pub pack_sum : count + (size - 1) < 2 ^ 32
-      pack_sum = omega (arith, size_now, s_most link, z.all, total_small ws links (length out) can_take_all out_held)
-
-      pub pack_used : (count + (size - 1)) / size < 2 ^ 32
-      pack_used = (div-lt_iff_lt-mul pack_size).1 (omega (arith, pack_size, pack_sum))
 
     -- ---- laid out and counted
 
@@ -158,12 +153,12 @@ module _ {rule : Rule} {ws : List ℕ} {links : ℕ} {work : List ℕ} (h : CanP
       pub pack_counter : HasCounter ws₂ links
       pack_counter = has_counter ws₂ links l.array link.low (omega (arith, links_now))
 
-      module _ {j size : ℕ} (j_is : j ≡ links) (size_is : size ≡ s j) {ws₃ : List ℕ} (c : CounterPut ws₂ ws₃ links ((count + (size - 1)) / size + 1)) where
+      module _ {j size : ℕ} (j_is : j ≡ links) (size_is : size ≡ s j) {ws₃ : List ℕ} (c : CounterPut ws₂ ws₃ links (div_ceil count size + 1)) where
         links_then : links_in ws₃ ≡ links
         links_then = c.zeroth ∙ links_now
 
-        used_is : (count + (size - 1)) / size + 1 ≡ suc ((length out + (s links - 1)) / s links)
-        used_is = add-one ((count + (size - 1)) / size) ∙ (λ i. suc ((z.all i + (size_now j_is size_is i - 1)) / size_now j_is size_is i))
+        used_is : div_ceil count size + 1 ≡ suc ((length out + (s links - 1)) / s links)
+        used_is = add-one (div_ceil count size) ∙ ap suc (rounded_up count size (pack_size j_is size_is)) ∙ (λ i. suc ((z.all i + (size_now j_is size_is i - 1)) / size_now j_is size_is i))
 
         counters_then : map (counter_in ws₃) (from 1 (links_in ws₃)) ≡ packed_counters links (length out)
         counters_then = ap (λ n. map (counter_in ws₃) (from 1 n)) links_then ∙ counters_are (counter_in ws₃) links (length out) link.low (c.at ∙ used_is) c.before

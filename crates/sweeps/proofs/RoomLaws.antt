@@ -17,7 +17,7 @@ use Rattle.buffers.specs.Format.{links_in, book_of, lent_of, buffer_of}
 use Rattle.buffers.specs.Slots.{capacity_of}
 use Rattle.buffers.specs.Post.{Inside, Has}
 use Rattle.buffers.proofs.ArrayLaws.{buffer_length}
-use Rattle.sweeps.specs.Room.{CanSweep, CanMakeRoom, MadeRoom}
+use Rattle.sweeps.specs.Room.{CanMakeRoom, MadeRoom}
 use Rattle.takes.proofs.ReadyLaws.{insertion_has, insertion_is}
 
 -- ---- the three cases of making room
@@ -58,9 +58,6 @@ module _ {rule : Rule} (ws work : List ℕ) (h : CanMakeRoom rule ws work) where
   unfolding queue_of lent_of
   I_long = ap length (insertion_is ws (links_in ws) h.moves.can)
 
-  pub some_words : 0 < length ws
-  some_words = omega (arith, counts_I.slots, counts_I.behind)
-
   pub room_there : (n : ℕ) → n ≡ length (buffer_of ws 0) → n < 8 → MadeRoom ws ws (make_room q) work work 0
   room_there n n_is less =
       rw (room_none q (omega (arith, I_long)))
@@ -85,18 +82,29 @@ module _ {rule : Rule} (ws work : List ℕ) (h : CanMakeRoom rule ws work) where
   unfolding capacity_of
   I_full n n_is eight = omega (arith, I_long, buffer_length ws 0 counts_I, counts_I.fits)
 
-  module _ (n : ℕ) (n_is : n ≡ length (buffer_of ws 0)) (eight : 8 ≤ n) (l : ℕ) (l_is : l ≡ links_in ws) (i : ℕ) (i_is : i ≡ lowest 1 (book_of ws).counters) where
-    pub can_sweep : i ≤ l → CanSweep rule ws i work
-    can_sweep there = rw i_is (h.sweeps (omega (arith, i_is, l_is)))
+  module _ (n : ℕ) (n_is : n ≡ length (buffer_of ws 0)) (eight : 8 ≤ n) (l : ℕ) (l_is : l ≡ links_in ws) where
+    -- to a link that was found
+    module _ (i : ℕ) (i_is : i ≡ lowest 1 (book_of ws).counters) (there : i ≤ l) where
+      now_swept : make_room q ≡ swept i q
+      unfolding queue_of lent_of
+      now_swept = room_swept q (I_full n n_is eight) (omega (arith, i_is, l_is)) ∙ ap (λ m. swept m q) (sym i_is)
 
-    pub swept_room : i ≤ l → (ws' work' : List ℕ) (steps : ℕ) → MadeRoom ws ws' (swept i q) work work' steps → MadeRoom ws ws' (make_room q) work work' steps × (false ≡ (make_room q).packed)
-    unfolding queue_of lent_of swept
-    swept_room there ws' work' steps z =
-        let e = room_swept q (I_full n n_is eight) (omega (arith, i_is, l_is)) in
-        (subst (λ y. MadeRoom ws ws' y work work' steps) (ap (λ m. swept m q) i_is ∙ sym e) z, sym (ap (λ (y : Inserted). y.packed) e))
+      pub swept_room : (ws' work' : List ℕ) (steps : ℕ) → MadeRoom ws ws' (swept i q) work work' steps → MadeRoom ws ws' (make_room q) work work' steps
+      swept_room ws' work' steps z = subst (λ y. MadeRoom ws ws' y work work' steps) (sym now_swept) z
 
-    pub packed_room : l < i → (ws' work' : List ℕ) (steps : ℕ) → MadeRoom ws ws' (packed q) work work' steps → MadeRoom ws ws' (make_room q) work work' steps × (true ≡ (make_room q).packed)
-    unfolding queue_of lent_of packed
-    packed_room past ws' work' steps z =
-        let e = room_packed q (I_full n n_is eight) (omega (arith, i_is, l_is)) in
-        (subst (λ y. MadeRoom ws ws' y work work' steps) (sym e) z, sym (ap (λ (y : Inserted). y.packed) e))
+      pub swept_told : false ≡ (make_room q).packed
+      unfolding swept
+      swept_told = sym (ap (λ (y : Inserted). y.packed) now_swept)
+
+    -- where none was
+    module _ (past : l < lowest 1 (book_of ws).counters) where
+      now_packed : make_room q ≡ packed q
+      unfolding queue_of lent_of
+      now_packed = room_packed q (I_full n n_is eight) (omega (arith, l_is))
+
+      pub packed_room : (ws' work' : List ℕ) (steps : ℕ) → MadeRoom ws ws' (packed q) work work' steps → MadeRoom ws ws' (make_room q) work work' steps
+      packed_room ws' work' steps z = subst (λ y. MadeRoom ws ws' y work work' steps) (sym now_packed) z
+
+      pub packed_told : true ≡ (make_room q).packed
+      unfolding packed
+      packed_told = sym (ap (λ (y : Inserted). y.packed) now_packed)

@@ -7,9 +7,10 @@ use native.Mathlib.Omega.{arith}
 use native.Mathlib.Decide.{dec_lt, ℕ_discrete}
 use lib.ListN.{length, get_or, take, drop}
 use lib.Seq.{ext_get_or, take_at, length-take-le}
+use Rattle.std.proofs.lemmas.List.{length-map, take-take, drop-take}
 use Rattle.rules.specs.declared.Rule.{Rule}
 use Rattle.rules.specs.Entries.{key_by}
-use Rattle.rules.specs.Links.{s, first, sum, most, from, buffer_count, path_room, book_words, LinkNumber}
+use Rattle.rules.specs.Links.{s, first, sum, most, from, buffer_count, book_words, LinkNumber}
 use Rattle.rules.specs.Tree.{Buffers, k_merger, links_from, tree_of}
 use Rattle.rules.specs.Take.{Taken, insertion, take_all}
 use Rattle.rules.specs.Queue.{Queue, key_of, counter, held_from}
@@ -27,10 +28,8 @@ use Rattle.rules.proofs.Paths.{link_way, path_in_link_is, from_b}
 use Rattle.rules.proofs.PathCounts.{NotOn, not_on_append, raised_long, raised_before, raised_at, raised_behind}
 use Rattle.rules.proofs.SweepLaws.{sweep_long, run_within, swept_insertion, swept_no_more, swept_lower}
 use Rattle.buffers.specs.Format.{links_in, counter_in, mark_in, count_of, mark_of, word_of, many, book_of, lent_of, buffers_of}
-use Rattle.buffers.specs.Post.{Inside}
+use Rattle.buffers.specs.Post.{Inside, Kept}
 use Rattle.buffers.specs.Counters.{HasCounter, CounterPut}
-use Rattle.buffers.specs.Weights.{broken}
-use Rattle.buffers.proofs.LinkWeights.{most_small}
 use Rattle.buffers.proofs.SlotLaws.{behind_book, in_words, some}
 use Rattle.buffers.proofs.ArrayLaws.{has, length_each, each_at, buffer_length, buffers_at, buffers_length, kept_links, kept_unused, unused_behind}
 use Rattle.buffers.proofs.KeyLaws.{key_given}
@@ -39,13 +38,14 @@ use Rattle.mergers.specs.Fills.{MarksRight}
 use Rattle.mergers.proofs.FillLaws.{in_stands}
 use Rattle.runs.specs.Promises.{laid_at, stretch}
 use Rattle.runs.proofs.LayingLaws.{length_laid, laid_outside, laid_there}
-use Rattle.paths.specs.Way.{Ends, PathIs}
+use Rattle.paths.specs.declared.Step.{Step}
+use Rattle.paths.specs.Way.{numbers_of, counts_of, Ends, PathIs}
 use Rattle.paths.specs.Along.{Noting, Noted, Copied, Gathering, along_from}
-use Rattle.paths.specs.Refills.{Refilled}
+use Rattle.paths.specs.Refills.{Refilling, Refilled}
 use Rattle.paths.proofs.WayLaws.{path_long}
 use Rattle.paths.proofs.CallLaws.{path_on, along_link, last_number, refilling, refilled_state}
 use Rattle.takes.specs.Emptying.{CanEmpty, TookAll}
-use Rattle.sweeps.specs.Room.{RefillingFrom, CanSweep, MadeRoom}
+use Rattle.sweeps.specs.Room.{CanSweep, MadeRoom}
 use Rattle.takes.proofs.EmptyLaws.{all_held}
 use Rattle.sweeps.proofs.MarkLaws.{marks_fewer, marks_behind, all_taken, all_first, all_second, not_on_taken, Clear, AsBefore, marks_way, marks_through}
 
@@ -81,13 +81,10 @@ module _ (f g : ℕ → ℕ) (i l : ℕ) (low : 1 ≤ i) (high : i ≤ l) (befor
       go x less (no not_sooner) (yes e) = ap g e ∙ at ∙ ap (λ m. suc (f m)) (sym e) ∙ ap suc (sym (each_at f 1 l x 0 less)) ∙ sym (raised_at i (map f (from 1 l)) x (omega arith) (omega (arith, length_each f 1 l)))
       go x less (no not_sooner) (no differ) = behind (1 + x) (omega arith) (omega arith) ∙ sym (each_at f 1 l x 0 less) ∙ sym (raised_behind i (map f (from 1 l)) x (omega arith))
 
--- ---- with c(i) as it was read
+-- ---- with c(i) as it was read, and the path's numbers as they are after noting
 
-pub ends_by : {i j c : ℕ} {ns : List ℕ} → c ≡ j → Ends i j ns → Ends i c ns
-ends_by {i} {j} {c} {ns} e h = subst (λ n. Ends i n ns) (sym e) h
-
-pub path_by : {i j c r : ℕ} {ns : List ℕ} → c ≡ j → PathIs i c ns r → PathIs i j ns r
-path_by {i} {j} {c} {r} {ns} e p = subst (λ n. PathIs i n ns r) e p
+pub path_by : {i j c r r' : ℕ} {ns ns' : List ℕ} → c ≡ j → ns' ≡ ns → r' ≡ r → PathIs i c ns r → PathIs i j ns' r'
+path_by e numbers length p = rw (numbers, length, ← e) p
 
 pub put_by : {ws ws' : List ℕ} {i j c : ℕ} → c ≡ j → CounterPut ws ws' i (c + 1) → CounterPut ws ws' i (j + 1)
 put_by {ws} {ws'} {i} e u = subst (λ n. CounterPut ws ws' i (n + 1)) e u
@@ -129,8 +126,8 @@ module _ {rule : Rule} (ws : List ℕ) (i : ℕ) (work : List ℕ) (h : CanSweep
   pub counter_there : HasCounter ws i
   counter_there = has_counter ws i array h.low h.there
 
-  pub ends : (ns : List ℕ) → length ns ≡ path_room → Ends i j ns
-  ends ns long = record { way = record { link = link; long = long }; low = h.counted; high = h.unspent; few = omega (arith, k_in_book link) }
+  pub ends : Ends i j
+  ends = record { link = link; low = h.counted; high = h.unspent; few = omega (arith, k_in_book link) }
 
   -- c(i) as the rules read it
   counter_q : counter q i ≡ j
@@ -185,16 +182,21 @@ module _ {rule : Rule} (ws : List ℕ) (i : ℕ) (work : List ℕ) (h : CanSweep
   long_run : length along + length z.out ≡ sum (counts (path i j) bs) + (sweep_to key i j bs).rest
   long_run = sym (join_long key along z.out) ∙ sweep_long key links i j h.low h.there h.counted h.unspent bs as_many
 
-  module _ (ns : List ℕ) (r : ℕ) (p : PathIs i j ns r) where
-    pub notes : (cs : List ℕ) → length cs ≡ path_room → Noting ws ns r cs
-    notes cs long = record { path = path_on link j h.counted h.unspent p ws array h.there; room = long }
+  pub notes : (steps : List Step) (r : ℕ) → PathIs i j (numbers_of steps) r → Noting ws (numbers_of steps) r (counts_of steps)
+  notes steps r p =
+      let as_many = length-map steps (λ (step : Step). step.count) ∙ sym (length-map steps (λ (step : Step). step.buffer)) in
+      record { path = path_on link j h.counted h.unspent p ws array h.there; room = as_many ∙ p.long }
 
+  module _ (ns : List ℕ) (r : ℕ) (p : PathIs i j ns r) where
     module _ (ws₁ work₁ : List ℕ) (count steps : ℕ) (t : TookAll ws ws₁ (i - 1) z work work₁ count steps) where
       there₁ : i ≤ links_in ws₁
       there₁ = rw (kept_links t.kept) h.there
 
       work₁-long : length work₁ ≡ length work
       work₁-long = ap length t.out ∙ length_laid work 0 z.out (omega (arith, both_fit, h.moves.room))
+
+      pub counter_stays : (ws₂ : List ℕ) → Inside ws₂ → Kept ws₁ ws₂ → HasCounter ws₂ i
+      counter_stays ws₂ inside kept = let e : links_in ws₂ ≡ links = kept_links kept ∙ kept_links t.kept in has_counter ws₂ i inside h.low (rw e h.there)
 
       along_is : along_from ws₁ ns (i - 1) r ≡ along
       along_is = along_link link j h.counted h.unspent p ws₁ ∙ ap (run_along (path_in_link i j)) t.state
@@ -211,9 +213,6 @@ module _ {rule : Rule} (ws : List ℕ) (i : ℕ) (work : List ℕ) (h : CanSweep
         end_is : m ≡ length along
         end_is = g.many ∙ ap length along_is
 
-        pub end_small : count + m ≤ broken
-        end_small = omega (arith, end_is, t.all, both_fit, most_small array.link)
-
         laid₂ : work₂ ≡ laid_at work₁ count along
         laid₂ = g.laid ∙ ap (laid_at work₁ count) along_is
 
@@ -223,30 +222,28 @@ module _ {rule : Rule} (ws : List ℕ) (i : ℕ) (work : List ℕ) (h : CanSweep
         pub work₂-long : length work₂ ≡ length work
         work₂-long = ap length laid₂ ∙ length_laid work₁ count along inside₁ ∙ work₁-long
 
-        second_run : stretch count (count + m) work₂ ≡ along
-        second_run = rw (laid₂, end_is) (laid_there work₁ count along (omega (arith, inside₁)))
+        second_run : drop count (take (count + m) work₂) ≡ along
+        second_run =
+            let e : count + m - count ≡ m = omega arith in
+            let there : stretch count (count + length along) work₂ ≡ along = rw laid₂ (laid_there work₁ count along (omega (arith, inside₁))) in
+            drop-take count m work₂ ∙ ap (λ n. take n (drop count work₂)) (sym e) ∙ ap (λ n. stretch count (count + n) work₂) end_is ∙ there
 
-        first_run : take count work₂ ≡ z.out
+        first_run : take count (take (count + m) work₂) ≡ z.out
         first_run =
-            ap (take count) laid₂ ∙ take_at (take count work₁) (along ++ drop (count + length along) work₁) count (length-take-le count work₁ (omega (arith, inside₁)))
+            take-take count (count + m) work₂ (omega arith)
+            ∙ ap (take count) laid₂ ∙ take_at (take count work₁) (along ++ drop (count + length along) work₁) count (length-take-le count work₁ (omega (arith, inside₁)))
             ∙ ap (take count) t.out ∙ take_at z.out (drop (0 + length z.out) work) count (sym t.all)
 
-        module _ (cs : List ℕ) (noted : Noted ws ns r cs) where
-          pub refills : RefillingFrom ws₁ ns cs r work₂ count (count + m)
+        -- the work area up to there, split where the emptied run ends
+        module _ (cs : List ℕ) (noted : Noted ws ns r cs) (front back : List ℕ) (front_is : front ≡ take count (take (count + m) work₂)) (back_is : back ≡ drop count (take (count + m) work₂)) where
+          pub refills : Refilling ws₁ ns cs r back front
           refills =
-              record {
-                refills = rw (second_run, first_run)
-                    (refilling link j h.counted h.unspent p array h.there noted h.empty ws₁ along z.out t.can.array there₁ (omega (arith, long_run)) (omega (arith, long_run, rest_fits)));
-                inside = omega arith;
-                within = omega (arith, inside₁, end_is, work₂-long, work₁-long);
-              }
+              rw (front_is, back_is, second_run, first_run)
+              (refilling link j h.counted h.unspent p array h.there noted h.empty ws₁ along z.out t.can.array there₁ (omega (arith, long_run)) (omega (arith, long_run, rest_fits)))
 
-          module _ (ws₂ : List ℕ) (f : Refilled key ws₁ ws₂ ns cs r (stretch count (count + m) work₂) (take count work₂)) where
+          module _ (ws₂ : List ℕ) (f : Refilled key ws₁ ws₂ ns cs r back front) where
             links₂ : links_in ws₂ ≡ links
             links₂ = kept_links f.kept ∙ kept_links t.kept
-
-            pub counter_there₂ : HasCounter ws₂ i
-            counter_there₂ = has_counter ws₂ i f.array h.low (rw links₂ h.there)
 
             module _ (ws₃ : List ℕ) (u : CounterPut ws₂ ws₃ i (j + 1)) where
               links₃ : links_in ws₃ ≡ links
@@ -255,8 +252,8 @@ module _ {rule : Rule} (ws : List ℕ) (i : ℕ) (work : List ℕ) (h : CanSweep
               buffers₃ : buffers_of ws₃ ≡ (sweep_to key i j bs).buffers
               unfolding sweep_to
               buffers₃ =
-                  put_buffers counter_there₂ u ∙ refilled_state link j h.counted h.unspent p array h.there noted f
-                  ∙ rw (second_run, first_run, t.state)
+                  put_buffers (counter_stays ws₂ f.array f.kept) u ∙ refilled_state link j h.counted h.unspent p array h.there noted f
+                  ∙ rw (front_is, back_is, second_run, first_run, t.state)
 
               same_counter : (n : ℕ) → n < 8 → counter_in ws₂ n ≡ counter_in ws n
               same_counter n less = f.kept.front n less ∙ t.kept.front n less
@@ -272,7 +269,7 @@ module _ {rule : Rule} (ws : List ℕ) (i : ℕ) (work : List ℕ) (h : CanSweep
               queue₃ = λ x. record { links = links₃ x; counters = counters₃ x; buffers = (buffers₃ ∙ sym (ap (λ z. z.buffers) same_sweep)) x }
 
               mark₃ : (n : ℕ) → mark_of ws₃ n ≡ mark_of ws₂ n
-              mark₃ n = ap mark_in (put_word counter_there₂ u n)
+              mark₃ n = ap mark_in (put_word (counter_stays ws₂ f.array f.kept) u n)
 
               cleared : Clear ws ws₃ (path i j)
               cleared = subst (Clear ws ws₃) p.is (all_taken (λ n. mark_of ws₃ n ≡ 0) r ns (omega (arith, p.few, p.long)) (λ x less. mark₃ (get_or ns x 0) ∙ (f.words x less).mark))
@@ -288,7 +285,7 @@ module _ {rule : Rule} (ws : List ℕ) (i : ℕ) (work : List ℕ) (h : CanSweep
                   let off_path : NotOn n (path i j) = not_on_append n (outputs 1 (i - 1)) (path_in_link i j) (behind_outputs (i - 1) 1 n (omega arith) begins) (subst (NotOn n) (sym (path_in_link_is i j h.low h.counted h.unspent)) off) in
                   let other = not_on_taken n r ns (omega (arith, p.few, p.long)) (subst (NotOn n) (sym p.is) off_path) in
                   let word : word_of ws₃ n ≡ word_of ws n =
-                  put_word counter_there₂ u n ∙ f.others n (rw (kept_links t.kept) less) other
+                  put_word (counter_stays ws₂ f.array f.kept) u n ∙ f.others n (rw (kept_links t.kept) less) other
                   ∙ t.others n less (λ e. absurd (omega (arith, range.0, first_some i h.low))) (λ b. absurd (omega (arith, rw at_i at (links_range 1 (i - 1) (omega arith) (in_stands n (links_from 1 (i - 1)) b)).1, range.0))) in (
                     ap mark_in word,
                     rw buffers₃ (swept_no_more key links i j h.low h.there h.counted h.unspent bs as_many n
@@ -316,7 +313,7 @@ module _ {rule : Rule} (ws : List ℕ) (i : ℕ) (work : List ℕ) (h : CanSweep
               none_in_I : count_of ws₃ 0 ≡ 0
               unfolding insertion
               none_in_I =
-                  let array₃ = put_inside counter_there₂ u in
+                  let array₃ = put_inside (counter_stays ws₂ f.array f.kept) u in
                   let less : 0 < many ws₃ = omega (arith, some array₃.link) in
                   sym (ap length (buffers_at ws₃ 0 less) ∙ buffer_length ws₃ 0 (has ws₃ 0 array₃ less))
                   ∙ ap (λ b. length (get_or b 0 [])) buffers₃ ∙ ap length (swept_insertion key links i j h.low h.there h.counted h.unspent bs as_many)
@@ -325,7 +322,7 @@ module _ {rule : Rule} (ws : List ℕ) (i : ℕ) (work : List ℕ) (h : CanSweep
               unfolding swept sweep_to queue_of lent_of
               made_room =
                   record {
-                    array = put_inside counter_there₂ u;
+                    array = put_inside (counter_stays ws₂ f.array f.kept) u;
                     links = links₃;
                     queue_is = queue₃;
                     made = t.made ∙ sym (ap (λ z. z.steps) same_sweep);

@@ -1,5 +1,5 @@
 -- What making room in I asks and ensures: a sweep, a packing; and what an insert leaves of its work area.
-use Rattle.std.specs.Prelude.{◌≡◌, List, [], ℕ, ◌≤◌, length, get_or, take}
+use Rattle.std.specs.Prelude.{◌≡◌, List, [], ℕ, ◌≤◌, length, get_or}
 use Rattle.rules.specs.declared.Rule.{Rule}
 use Rattle.rules.specs.Links.{s, k, most, number_of_s, words}
 use Rattle.rules.specs.Tree.{links_from}
@@ -10,8 +10,6 @@ use Rattle.rules.specs.Calls.{queue_of}
 use Rattle.buffers.specs.Format.{links_in, counter_in, rule_in, count_of, mark_of, many, book_of, buffer_of, buffers_of, lent_of}
 use Rattle.buffers.specs.Post.{Inside, Unused}
 use Rattle.mergers.specs.Fills.{MarksRight}
-use Rattle.paths.specs.Refills.{Refilling}
-use Rattle.runs.specs.Promises.{stretch}
 use Rattle.takes.specs.Heads.{CanTake}
 
 -- the rule is the array's, a take can be made over all links, and the work area has room for all that a queue of them holds
@@ -20,12 +18,6 @@ pub record CanMove (rule : Rule) (ws work : List ℕ) : Type 0 where
   pub can : CanTake ws (links_in ws)
   pub few : held_from 0 (many ws) (buffers_of ws) ≤ most (links_in ws)
   pub room : most (links_in ws) ≤ length work
-
--- the path may be refilled from two runs that stand one behind the other in the work area
-pub record RefillingFrom (ws ns cs : List ℕ) (n : ℕ) (work : List ℕ) (at end : ℕ) : Type 0 where
-  pub refills : Refilling ws ns cs n (stretch at end work) (take at work)
-  pub inside : at ≤ end
-  pub within : end ≤ length work
 
 -- S(i, c(i)) is there and empty, and what is left over has its place in it
 pub record CanSweep (rule : Rule) (ws : List ℕ) (i : ℕ) (work : List ℕ) : Type 0 where

@@ -1,64 +1,43 @@
 // Room in I: a sweep to the lowest link that has a free S, or a packing.
 #![tactic(auto)]
 
-ghost use Rattle.std.specs.Prelude.{◌≡◌, take};
-ghost use Rattle.rules.specs.Entries.{key_by};
+ghost use Rattle.std.specs.Prelude.{◌≡◌, ◌<◌, ◌≤◌, MatchOption};
 ghost use Rattle.rules.specs.Calls.{queue_of};
 ghost use Rattle.buffers.specs.Format.{book_of, lent_of, links_in};
 ghost use Rattle.buffers.specs.Post.{Inside};
-ghost use Rattle.sweeps.specs.Room.{RefillingFrom, CanSweep, CanPack, CanMakeRoom, MadeRoom};
-ghost use Rattle.paths.specs.Refills.{Refilled};
-ghost use Rattle.runs.specs.Promises.{stretch};
+ghost use Rattle.sweeps.specs.Room.{CanSweep, CanPack, CanMakeRoom, MadeRoom};
 ghost use Rattle.rules.specs.Insert.{lowest, swept, packed, make_room};
 
+use paths::Path;
 use rules::{Link, Rule};
 
-// The lowest link whose counter says that an S is free; one past the last where there is none.
-fn lowest(a: &[u64], links: usize) -> usize
+// The lowest link whose counter says that an S is free, if there is one.
+fn lowest(a: &[u64], links: usize) -> Option<usize>
     requires { Inside a.now × (links ≡ links_in a.now) }
-    ensures { result ≡ lowest 1 (book_of a.now).counters }
+    ensures { MatchOption result (links < lowest 1 (book_of a.now).counters) (λ i. (i ≡ lowest 1 (book_of a.now).counters) × (i ≤ links)) }
 {
-    let mut i: usize = 1;
-    while i <= links {
+    for i in 1..=links {
         if buffers::counters::counter(a, i) <= Link::at(i).k() as u64 {
-            return i;
+            return Some(i);
         }
-        i += 1;
     }
-    i
+    None
 }
 
-// Refills the path from the work area: the emptied run stands at its beginning, the run along the path behind it.
-fn refill_from(
-    rule: Rule,
-    a: &mut [u64],
-    path: &[usize; Link::PATH],
-    counts: &[usize; Link::PATH],
-    n: usize,
-    work: &[u64],
-    at: usize,
-    end: usize,
-)
-    requires { RefillingFrom a.old path.now counts.now n work.now at end }
-    ensures { Refilled (key_by rule) a.old a.new path.now counts.now n (stretch at end work.now) (take at work.now) }
-{
-    paths::refill(rule, a, path, counts, n, &work[at..end], &work[..at]);
-}
-
-// Sweeps to link i. Answers the merge steps made while emptying.
+// Sweeps to link i: the path is refilled from the work area, where the emptied run stands at the beginning and the run along the path behind it. Answers the merge steps made while emptying.
 fn sweep(rule: Rule, a: &mut [u64], i: usize, work: &mut [u64]) -> u64
     requires { CanSweep rule a.old i work.old }
     ensures { MadeRoom a.old a.new (swept i (queue_of (lent_of a.old))) work.old work.new result }
 {
     let c = buffers::counters::counter(a, i);
-    let mut path = [0usize; Link::PATH];
-    let n = paths::path_to(i, c as usize, &mut path);
-    let mut counts = [0usize; Link::PATH];
-    paths::note(a, &path, n, &mut counts);
+    let mut path = Path::new();
+    path.lead_to(i, c as usize);
+    path.note(a);
     let emptied = takes::take_all(rule, a, i - 1, work);
     let from = emptied.count;
-    let end = from + paths::gather(a, &path, i - 1, n, work, from);
-    refill_from(rule, a, &path, &counts, n, work, from, end);
+    let end = from + path.gather(a, i - 1, work, from);
+    let (out, along) = work[..end].split_at(from);
+    path.refill(rule, a, along, out);
     buffers::counters::put_counter(a, i, c + 1);
     emptied.steps
 }
@@ -71,8 +50,7 @@ fn pack(rule: Rule, a: &mut [u64], links: usize, work: &mut [u64]) -> u64
     let emptied = takes::take_all(rule, a, links, work);
     let end = emptied.count;
     paths::lay_out(a, links, &work[..end]);
-    let size = Link::at(links).s();
-    let used = (end + (size - 1)) / size;
+    let used = end.div_ceil(Link::at(links).s());
     buffers::counters::put_counter(a, links, used as u64 + 1);
     emptied.steps
 }
@@ -97,17 +75,14 @@ pub fn make_room(rule: Rule, a: &mut [u64], work: &mut [u64]) -> Room
         };
     }
     let links = buffers::counters::links(a) as usize;
-    let i = lowest(a, links);
-    if links < i {
-        let steps = pack(rule, a, links, work);
-        return Room {
-            steps,
+    match lowest(a, links) {
+        Some(i) => Room {
+            steps: sweep(rule, a, i, work),
+            packed: false,
+        },
+        None => Room {
+            steps: pack(rule, a, links, work),
             packed: true,
-        };
-    }
-    let steps = sweep(rule, a, i, work);
-    Room {
-        steps,
-        packed: false,
+        },
     }
 }
