@@ -3,6 +3,7 @@ use Prim.Native.Nat.{ℕ, zero, suc, ◌+◌, ◌-◌, ◌*◌, ◌≤◌, ◌<�
 use mathlib.Core.Path.{◌≡◌, refl, sym, ap, ◌∙◌}
 use mathlib.Core.Bool.{true}
 use mathlib.Core.List.{List, [], map}
+use Rattle.std.specs.Prelude.{Some}
 use native.Mathlib.Omega.{arith}
 use native.Mathlib.Decide.{dec_lt}
 use borrow.Author.Tests.{eq-eqb, eqb-true}
@@ -23,11 +24,11 @@ use Rattle.rules.proofs.BookKept.{Shaped}
 use Rattle.buffers.specs.Format.{links_in, count_of, mark_of, counter_in, many, book_of, lent_of, buffers_of}
 use Rattle.buffers.specs.Slots.{capacity_of}
 use Rattle.buffers.specs.Post.{Inside}
-use Rattle.buffers.specs.Weights.{held_if_sound}
 use Rattle.buffers.specs.Rules.{Part, whole, in_one, in_two, held_under, top_marked, LinkRules, Rules}
 use Rattle.buffers.proofs.SlotLaws.{some, capacity_is}
 use Rattle.buffers.proofs.ArrayLaws.{has, length_each, buffer_length, buffers_at, buffers_length}
 use Rattle.buffers.proofs.RuleLaws.{sound_rules, rules_sound}
+use Rattle.buffers.specs.Weights.{held_if_sound}
 use Rattle.buffers.proofs.Exact.{count_is, start_is, mark_is, held_all_lem}
 use Rattle.mergers.specs.Fills.{MarksRight}
 
@@ -70,9 +71,9 @@ module _ (ws : List ℕ) (array : Inside ws) where
   shaped = record { counters = length_each (counter_in ws) 1 (links_in ws); buffers = buffers_length ws }
 
   -- what the book test hands back for a sound book is all that is held
-  pub weighed_held : (n : ℕ) → n ≡ held_if_sound b → sound b ≡ true → n ≡ held q
+  pub weighed_held : (n : ℕ) → Some n ≡ held_if_sound b → n ≡ held q
   unfolding held queue_of lent_of book_of
-  weighed_held n n_is right = held_all_lem ws n n_is right ∙ rules.together_is b q describes 0 (many ws)
+  weighed_held n n_is = held_all_lem ws n n_is ∙ rules.together_is b q describes 0 (many ws)
 
   -- ---- marks
 

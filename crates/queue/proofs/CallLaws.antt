@@ -8,9 +8,11 @@ use native.Mathlib.Omega.{arith}
 use borrow.Author.Tests.{le-leb, eq-eqb}
 use lib.Dec.{T, T_not, ltb}
 use lib.ListN.{length, get_or}
-use Rattle.rules.specs.declared.Answer.{Answer}
-use Rattle.rules.specs.declared.Answer.TheVariants.{Done, BookBroken, NoneHeld, OrderBroken}
-use Rattle.rules.specs.Answers.{number_of, is_done}
+use Rattle.std.specs.Prelude.{Option, Some, None, Result, Ok, Err, IsErrAnd}
+use Rattle.std.specs.Option.{option_to_list, unwrap_or}
+use Rattle.rules.specs.declared.Done as code
+use Rattle.rules.specs.declared.Refusal.{Refusal}
+use Rattle.rules.specs.Answers.{Answer, Done, BookBroken, NoneHeld, OrderBroken, number_of, is_done, answer_as}
 use Rattle.rules.specs.declared.Rule.{Rule}
 use Rattle.rules.specs.Entries.{key_by}
 use Rattle.rules.specs.Links.{from, words}
@@ -36,9 +38,9 @@ use Rattle.buffers.proofs.SlotLaws.{some}
 use Rattle.buffers.proofs.RuleLaws.{sound_rules}
 use Rattle.buffers.proofs.Exact.{sound_inside, count_is, mark_is}
 use Rattle.mergers.specs.Fills.{MarksRight, Did}
-use Rattle.takes.specs.Heads.{CanTake, Took, one_if, head_in}
-use Rattle.queue.specs.Calls.{Called}
-use Rattle.queue.proofs.CheckLaws.{done, not_done, unlike, Holding, early, each_holds, late, long_says}
+use Rattle.takes.specs.Heads.{CanTake, Took, head_in}
+use Rattle.queue.specs.Calls.{Called, Gives}
+use Rattle.queue.proofs.CheckLaws.{refuses, not_done, handed_on, unlike, Holding, early, each_holds, late, long_says}
 use Rattle.takes.proofs.HandLaws.{taken_is, word_of_I}
 use Rattle.queue.proofs.BookLaws.{describes, shaped, marks_right_lem, sound_after}
 
@@ -74,31 +76,30 @@ module _ (ws : List ℕ) where
   book_check = (sound (book_of ws) else BookBroken) ∷ []
 
   -- x is what they answer
-  module _ (x : Answer) (x_is : x ≡ common) where
-    pub refused_before : (others : List Check) → number_of x ≢ 0 → x ≡ first_failing (array_checks (lent_of ws) ((sound (book_of ws) else BookBroken) ∷ others))
+  pub refused_before : (x : Answer) → x ≡ common → number_of x ≢ 0 → (others : List Check) → x ≡ first_failing (array_checks (lent_of ws) ((sound (book_of ws) else BookBroken) ∷ others))
+  unfolding array_checks
+  refused_before x x_is differ others = early (array_checks (lent_of ws) book_check) others x x_is differ
+
+  pub refused_early : (r : Refusal) → answer_as r ≡ common → answer_as r ≡ first_failing (take_checks (lent_of ws))
+  unfolding take_checks lent_of
+  refused_early r r_is = refused_before (answer_as r) r_is (refuses r) none_held
+
+  module _ (none_fails : Done ≡ common) where
+    common_hold : Holding (array_checks (lent_of ws) book_check)
+    unfolding array_checks is_done
+    common_hold = each_holds (array_checks (lent_of ws) book_check) (refl, (refl, (refl, (refl, tt)))) none_fails
+
+    pub passed_all : (others : List Check) → first_failing (array_checks (lent_of ws) ((sound (book_of ws) else BookBroken) ∷ others)) ≡ first_failing others
     unfolding array_checks
-    refused_before others differ = early (array_checks (lent_of ws) book_check) others x x_is differ
+    passed_all others = late (array_checks (lent_of ws) book_check) others common_hold
 
-    pub refused_early : number_of x ≢ 0 → x ≡ first_failing (take_checks (lent_of ws))
+    passed : first_failing (take_checks (lent_of ws)) ≡ first_failing none_held
     unfolding take_checks lent_of
-    refused_early differ = refused_before none_held differ
+    passed = passed_all none_held
 
-    module _ (none_fails : number_of x ≡ 0) where
-      common_hold : Holding (array_checks (lent_of ws) book_check)
-      unfolding array_checks is_done
-      common_hold = each_holds (array_checks (lent_of ws) book_check) x (refl, (refl, (refl, (refl, tt)))) x_is none_fails
-
-      pub passed_all : (others : List Check) → first_failing (array_checks (lent_of ws) ((sound (book_of ws) else BookBroken) ∷ others)) ≡ first_failing others
-      unfolding array_checks
-      passed_all others = late (array_checks (lent_of ws) book_check) others common_hold
-
-      passed : first_failing (take_checks (lent_of ws)) ≡ first_failing none_held
-      unfolding take_checks lent_of
-      passed = passed_all none_held
-
-      pub may_hold : Long (lent_of ws) × T (sound (lent_of ws).book)
-      unfolding lent_of
-      may_hold = let h = long_says ws book_check common_hold in (h.0, h.1.0)
+    pub may_hold : Long (lent_of ws) × T (sound (lent_of ws).book)
+    unfolding lent_of
+    may_hold = let h = long_says ws book_check common_hold in (h.0, h.1.0)
 
   -- the array as the document wants it
   module _ (long : Long (lent_of ws)) (right : T (sound (lent_of ws).book)) where
@@ -200,9 +201,10 @@ pub refusal_called : (ws : List ℕ) (failing : Answer) (accepted : Outcome) (x 
 refusal_called ws failing accepted x e f =
     refused_called ws (unless failing (queue_of (lent_of ws)) accepted) x f (refused_is failing (queue_of (lent_of ws)) accepted (ap is_done (sym e) ∙ f) ∙ ap (λ z. refused z (queue_of (lent_of ws))) (sym e))
 
--- the same of an outcome with these parts
-pub told : (ws ws' : List ℕ) (o : Outcome) (x answer : Answer) (word steps : ℕ) (packed : Bool) → answer ≡ x → word ≡ 0 → steps ≡ 0 → packed ≡ false → Called ws ws' o x 0 0 false → Called ws ws' o answer word steps packed
-told ws ws' o x answer word steps packed a w s p z = rw (a, w, s, p) z
+-- the same of a call's result that hands the refusal on
+pub called_on : {ws : List ℕ} {o : Outcome} (z : Result code.Done Refusal) (r : Refusal) → IsErrAnd z (λ y. y ≡ r) → Called ws ws o (answer_as r) 0 0 false → Gives ws ws o z
+called_on (Ok done) r h called = absurd h
+called_on {ws} {o} (Err y) r h called = subst (λ y. Called ws ws o (answer_as y) 0 0 false) (sym h) called
 
 -- "every accepted call leaves a book that keeps all book rules"
 pub accepted_called : (ws ws' : List ℕ) (o accepted : Outcome) (word steps : ℕ) (packed : Bool) → o ≡ accepted → accepted.answer ≡ Done → word ≡ accepted.word → steps ≡ accepted.steps → packed ≡ accepted.packed
@@ -212,28 +214,28 @@ accepted_called ws ws' o accepted word steps packed e a w s p q b long past unus
     subst (λ z. Called ws ws' z Done word steps packed) (sym e)
     record { number_is = ap number_of (sym a); word_is = w; steps_are = s; packed_is = p; long = long; past = past; unused = unused; refused = λ g. absurd (unlike (sym (done_is ws) ∙ g)); queue_is = λ g. q; sound_is = λ g. b }
 
-the_one : (found : Bool) (entry : ℕ) (out : List ℕ) → one_if found entry ≡ out → (found ≡ false → entry ≡ 0) → entry ≡ the_entry out
+the_one : (entry : Option ℕ) (out : List ℕ) → option_to_list entry ≡ out → unwrap_or entry 0 ≡ the_entry out
 unfolding the_entry
-the_one true entry out e none = ap the_entry e
-the_one false entry out e none = none refl ∙ ap the_entry e
+the_one (Some e) out same = ap the_entry same
+the_one None out same = ap the_entry same
 
-head_out : (t : Tree) (step : Step) (now : Filled) → the_entry (hand_out t step now).out ≡ head_in step
+head_out : (t : Tree) (step : Step) (now : Filled) → the_entry (hand_out t step now).out ≡ unwrap_or (head_in step) 0
 unfolding the_entry hand_out head_in
 head_out t stop now = refl
 head_out t (move e xs ys) now = refl
 
-module _ (ws : List ℕ) (x : Answer) (x_is : x ≡ first_failing (take_checks (lent_of ws))) where
-  pub take_refused : number_of x ≢ 0 → Called ws ws (take (lent_of ws)) x 0 0 false
+module _ (ws : List ℕ) where
+  pub take_refused : (x : Answer) → x ≡ first_failing (take_checks (lent_of ws)) → number_of x ≢ 0 → Called ws ws (take (lent_of ws)) x 0 0 false
   unfolding take
-  take_refused differ = refusal_called ws (first_failing (take_checks (lent_of ws))) (take_accepted ws) x x_is (not_done x differ)
+  take_refused x x_is differ = refusal_called ws (first_failing (take_checks (lent_of ws))) (take_accepted ws) x x_is (not_done x differ)
 
-  pub look_refused : number_of x ≢ 0 → Called ws ws (look (lent_of ws)) x 0 0 false
+  pub look_refused : (x : Answer) → x ≡ first_failing (take_checks (lent_of ws)) → number_of x ≢ 0 → Called ws ws (look (lent_of ws)) x 0 0 false
   unfolding look
-  look_refused differ = refusal_called ws (first_failing (take_checks (lent_of ws))) (look_accepted ws) x x_is (not_done x differ)
+  look_refused x x_is differ = refusal_called ws (first_failing (take_checks (lent_of ws))) (look_accepted ws) x x_is (not_done x differ)
 
-  module _ (none_fails : number_of x ≡ 0) where
+  module _ (none_fails : Done ≡ first_failing (take_checks (lent_of ws))) where
     all_hold : is_done (first_failing (take_checks (lent_of ws))) ≡ true
-    all_hold = ap is_done (sym x_is) ∙ done x none_fails
+    all_hold = ap is_done (sym none_fails) ∙ done_is ws
 
     may : MayTake (lent_of ws)
     may = may_take ws all_hold
@@ -263,17 +265,18 @@ module _ (ws : List ℕ) (x : Answer) (x_is : x ≡ first_failing (take_checks (
         over : (P : (ℕ → ℕ) → ℕ → Type 0) → P (key_by rule) l → P (key_of (queue_of (lent_of ws))) (links_in ws)
         over P p = subst (λ k. P k (links_in ws)) (sym (key_given ws rule_is)) (subst (P (key_by rule)) l_is p)
 
-        pub take_called : (ws' : List ℕ) (found : Bool) (entry steps : ℕ) → Took ws ws' l (take_one (key_by rule) (links_from 1 l) (buffers_of ws)) found entry steps → Called ws ws' (take (lent_of ws)) Done entry steps false
+        pub take_called : (ws' : List ℕ) (entry : Option ℕ) (steps : ℕ) → Took ws ws' l (take_one (key_by rule) (links_from 1 l) (buffers_of ws)) entry steps
+            → Called ws ws' (take (lent_of ws)) Done (unwrap_or entry 0) steps false
         unfolding tree_of queue_of lent_of book_of
-        take_called ws' found entry steps took =
-            let z = over (λ k l. Took ws ws' l (take_one k (links_from 1 l) (buffers_of ws)) found entry steps) took in
+        take_called ws' entry steps took =
+            let z = over (λ k l. Took ws ws' l (take_one k (links_from 1 l) (buffers_of ws)) entry steps) took in
             let o = take_is ws all_hold in
             let array = inside ws may.long may.holds in
             let after : queue_of (lent_of ws') ≡ with_buffers (queue_of (lent_of ws)) (taken ws).buffers = same_queue ws ws' (taken ws).buffers array z.kept z.state in
             let k = take_kept 7 (queue_of (lent_of ws)) (shaped ws array) (kept_now ws may.long may.holds) in
-            accepted_called ws ws' (take (lent_of ws)) (take_accepted ws) entry steps false o
+            accepted_called ws ws' (take (lent_of ws)) (take_accepted ws) (unwrap_or entry 0) steps false o
             refl
-            (the_one found entry (taken ws).out z.out z.none)
+            (the_one entry (taken ws).out z.out)
             z.count
             refl
             after
@@ -282,12 +285,12 @@ module _ (ws : List ℕ) (x : Answer) (x_is : x ≡ first_failing (take_checks (
             (λ p h. z.kept.past p (rw (kept_links z.kept) at h))
             (λ p u. kept_unused z.kept p (rw (kept_links z.kept) at u))
 
-        pub look_called : (ws' : List ℕ) (word steps : ℕ) → Did ws ws' (links_from 1 l) (ready (key_by rule) (links_from 1 l) (buffers_of ws)) steps
-            → word ≡ head_in (merge_step (key_by rule) (entries (links_from 1 l) (buffers_of ws')) (insertion (buffers_of ws'))) → Called ws ws' (look (lent_of ws)) Done word steps false
+        pub look_called : (ws' : List ℕ) (head : Option ℕ) (steps : ℕ) → Did ws ws' (links_from 1 l) (ready (key_by rule) (links_from 1 l) (buffers_of ws)) steps
+            → head ≡ head_in (merge_step (key_by rule) (entries (links_from 1 l) (buffers_of ws')) (insertion (buffers_of ws'))) → Called ws ws' (look (lent_of ws)) Done (unwrap_or head 0) steps false
         unfolding tree_of queue_of lent_of book_of
-        look_called ws' word steps did said =
+        look_called ws' head steps did said =
             let d = over (λ k l. Did ws ws' (links_from 1 l) (ready k (links_from 1 l) (buffers_of ws)) steps) did in
-            let w = over (λ k l. word ≡ head_in (merge_step k (entries (links_from 1 l) (buffers_of ws')) (insertion (buffers_of ws')))) said in
+            let w = over (λ k l. head ≡ head_in (merge_step k (entries (links_from 1 l) (buffers_of ws')) (insertion (buffers_of ws')))) said in
             let o = look_is ws all_hold in
             let array = inside ws may.long may.holds in
             let t = links_from 1 (links_in ws) in
@@ -298,9 +301,9 @@ module _ (ws : List ℕ) (x : Answer) (x_is : x ≡ first_failing (take_checks (
             let I_word = word_of_I key ws (links_in ws) can_all ws' steps d in
             let after : queue_of (lent_of ws') ≡ with_buffers (queue_of (lent_of ws)) now.buffers = same_queue ws ws' now.buffers array d.kept d.state in
             let k = look_kept 7 (queue_of (lent_of ws)) (shaped ws array) (kept_now ws may.long may.holds) in
-            accepted_called ws ws' (look (lent_of ws)) (look_accepted ws) word steps false o
+            accepted_called ws ws' (look (lent_of ws)) (look_accepted ws) (unwrap_or head 0) steps false o
             refl
-            (w ∙ sym (head_out t step now) ∙ sym (ap (λ (z : Taken). the_entry z.out) same))
+            (ap (λ h. unwrap_or h 0) w ∙ sym (head_out t step now) ∙ sym (ap (λ (z : Taken). the_entry z.out) same))
             (d.count ∙ sym (hand_steps t step now) ∙ sym (ap (λ (z : Taken). z.steps) same))
             refl
             after
@@ -311,10 +314,10 @@ module _ (ws : List ℕ) (x : Answer) (x_is : x ≡ first_failing (take_checks (
 
 -- ---- held and audit, and the checks of take and look
 
-module _ (ws : List ℕ) (x : Answer) (x_is : x ≡ common ws) where
-  pub held_refused : number_of x ≢ 0 → Called ws ws (held_call (lent_of ws)) x 0 0 false
+module _ (ws : List ℕ) where
+  pub held_refused : (x : Answer) → x ≡ common ws → number_of x ≢ 0 → Called ws ws (held_call (lent_of ws)) x 0 0 false
   unfolding held_call lent_of
-  held_refused differ = refusal_called ws (common ws) (held_accepted ws) x x_is (not_done x differ)
+  held_refused x x_is differ = refusal_called ws (common ws) (held_accepted ws) x x_is (not_done x differ)
 
   abbrev in_order_lem : Bool
   in_order_lem = in_order (key_of (queue_of (lent_of ws))) (tree_of (queue_of (lent_of ws)).links) (queue_of (lent_of ws)).buffers
@@ -325,19 +328,19 @@ module _ (ws : List ℕ) (x : Answer) (x_is : x ≡ common ws) where
   abbrev audit_accepted : Outcome
   audit_accepted = record { answer = Done; word = 0; steps = 0; packed = false; queue = queue_of (lent_of ws) }
 
-  audit_refusal : (y : Answer) → y ≡ first_failing audit_checks → is_done y ≡ false → Called ws ws (audit (lent_of ws)) y 0 0 false
+  audit_refusal : (x : Answer) → x ≡ first_failing audit_checks → is_done x ≡ false → Called ws ws (audit (lent_of ws)) x 0 0 false
   unfolding audit lent_of
-  audit_refusal y e f = refusal_called ws (first_failing audit_checks) audit_accepted y e f
+  audit_refusal x e f = refusal_called ws (first_failing audit_checks) audit_accepted x e f
 
-  pub audit_refused : number_of x ≢ 0 → Called ws ws (audit (lent_of ws)) x 0 0 false
-  audit_refused differ = audit_refusal x (refused_before ws x x_is ((in_order_lem else OrderBroken) ∷ []) differ) (not_done x differ)
+  pub audit_refused : (x : Answer) → x ≡ common ws → number_of x ≢ 0 → Called ws ws (audit (lent_of ws)) x 0 0 false
+  audit_refused x x_is differ = audit_refusal x (refused_before ws x x_is differ ((in_order_lem else OrderBroken) ∷ [])) (not_done x differ)
 
-  module _ (none_fails : number_of x ≡ 0) where
+  module _ (none_fails : Done ≡ common ws) where
     book_holds : is_done (common ws) ≡ true
-    book_holds = ap is_done (sym x_is) ∙ done x none_fails
+    book_holds = ap is_done (sym none_fails) ∙ done_is ws
 
     may_now : Long (lent_of ws) × T (sound (lent_of ws).book)
-    may_now = may_hold ws x x_is none_fails
+    may_now = may_hold ws none_fails
 
     pub held_inside : Inside ws
     held_inside = inside ws may_now.0 may_now.1
@@ -357,7 +360,7 @@ module _ (ws : List ℕ) (x : Answer) (x_is : x ≡ common ws) where
 
       last_check : (b : Bool) → ltb 0 n ≡ b → first_failing (take_checks (lent_of ws)) ≡ elim b [ true ↦ Done | false ↦ NoneHeld ]
       unfolding first_failing
-      last_check b e = passed ws x x_is none_fails ∙ ap (λ m. first_failing ((ltb 0 m else NoneHeld) ∷ [])) (sym n_is) ∙ ap (λ t. first_failing ((t else NoneHeld) ∷ [])) e
+      last_check b e = passed ws none_fails ∙ ap (λ m. first_failing ((ltb 0 m else NoneHeld) ∷ [])) (sym n_is) ∙ ap (λ t. first_failing ((t else NoneHeld) ∷ [])) e
 
       -- "6 | nothing held"
       pub none_is : n ≡ 0 → NoneHeld ≡ first_failing (take_checks (lent_of ws))
@@ -375,7 +378,7 @@ module _ (ws : List ℕ) (x : Answer) (x_is : x ≡ common ws) where
       unfolding first_failing queue_of lent_of book_of
       audit_answer =
           let by_rule : t ≡ in_order_lem = t_is ∙ ap (λ k. in_order k (tree_of (links_in ws)) (buffers_of ws)) (sym (key_given ws rule_is)) in
-          passed_all ws x x_is none_fails ((in_order_lem else OrderBroken) ∷ []) ∙ ap (λ b. first_failing ((b else OrderBroken) ∷ [])) (sym by_rule)
+          passed_all ws none_fails ((in_order_lem else OrderBroken) ∷ []) ∙ ap (λ b. first_failing ((b else OrderBroken) ∷ [])) (sym by_rule)
 
       pub audit_called : t ≡ true → Called ws ws (audit (lent_of ws)) Done 0 0 false
       unfolding audit lent_of
@@ -393,3 +396,6 @@ module _ (ws : List ℕ) (x : Answer) (x_is : x ≡ common ws) where
       pub order_broken : t ≡ false → Called ws ws (audit (lent_of ws)) OrderBroken 0 0 false
       unfolding is_done
       order_broken e = audit_refusal OrderBroken (sym (audit_answer ∙ ap (λ b. elim b [ true ↦ Done | false ↦ OrderBroken ]) e)) refl
+
+-- what the checks of take and look search by
+pub ruleset of_take = (handed_on, refused_early, none_is, some_is)

@@ -5,12 +5,14 @@ use mathlib.Core.Logic.{◌≢◌}
 use mathlib.Core.Bool.{Bool, true, false}
 use mathlib.Core.List.{List, [], ◌∷◌, ◌++◌}
 use native.Mathlib.Omega.{arith}
-use borrow.Author.Tests.{le-leb, lt-leb, eq-eqb, ne_eqb}
+use borrow.Author.Tests.{le-leb, lt-leb, ne_eqb}
 use lib.Dec.{T, leb, leb→le}
 use lib.ListN.{length}
-use Rattle.rules.specs.declared.Answer.{Answer}
-use Rattle.rules.specs.declared.Answer.TheVariants.{Done, ArrayShort, BookBroken}
-use Rattle.rules.specs.Answers.{number_of, is_done}
+use Rattle.std.specs.Prelude.{Option, Some, None, Result, Ok, Err, IfOk, IsErrAnd}
+use Rattle.std.specs.Option.{ok_or}
+use Rattle.rules.specs.declared.Refusal.{Refusal}
+use Rattle.rules.specs.declared.Refusal.TheVariants as refusal
+use Rattle.rules.specs.Answers.{Answer, Done, ArrayShort, BookBroken, number_of, is_done, answer_as, answer_in}
 use Rattle.rules.specs.Links.{first, words, most_links, LinkNumber}
 use Rattle.rules.specs.Queue.{held}
 use Rattle.rules.specs.Book.{is_link_number, sound}
@@ -20,26 +22,35 @@ use Rattle.rules.proofs.Sizes.{book_in_words}
 use Rattle.rules.proofs.BookLaws.{number_is}
 use Rattle.rules.proofs.Accepted.{Long}
 use Rattle.buffers.specs.Format.{links_in, book_of, lent_of}
-use Rattle.buffers.specs.Weights.{broken, HasBook, held_if_sound}
+use Rattle.buffers.specs.Weights.{HasBook, held_if_sound}
 use Rattle.buffers.proofs.RuleLaws.{link_number_lem}
-use Rattle.buffers.proofs.Exact.{sound_inside, below_broken}
+use Rattle.buffers.proofs.Exact.{sound_inside, none_wrong, held_right}
 use Rattle.queue.proofs.BookLaws.{weighed_held}
 
 -- ---- answers
 
-pub done : (x : Answer) → number_of x ≡ 0 → is_done x ≡ true
-unfolding is_done
-done x e = eq-eqb (number_of x) 0 e
+pub unlike : true ≡ false → ⊥
+unlike e = subst T e tt
 
 pub not_done : (x : Answer) → number_of x ≢ 0 → is_done x ≡ false
 unfolding is_done
 not_done x differ = ne_eqb (number_of x) 0 differ
 
-pub unlike : true ≡ false → ⊥
-unlike e = subst T e tt
+pub refuses : (r : Refusal) → number_of (answer_as r) ≢ 0
+refuses refusal.NoSuchLinks e = omega (arith, e)
+refuses refusal.ArrayShort e = omega (arith, e)
+refuses refusal.WorkShort e = omega (arith, e)
+refuses refusal.BookBroken e = omega (arith, e)
+refuses refusal.Full e = omega (arith, e)
+refuses refusal.NoneHeld e = omega (arith, e)
+refuses refusal.DoorAbove e = omega (arith, e)
+refuses refusal.OrderBroken e = omega (arith, e)
+refuses refusal.NotAFrame e = omega (arith, e)
 
-pub broken_refuses : number_of BookBroken ≢ 0
-broken_refuses e = omega (arith, e)
+-- a refusal that is handed on stays what it is
+pub handed_on : {A : Type 0} {a : Answer} (z : Result A Refusal) (r : Refusal) → IsErrAnd z (λ y. y ≡ r) → answer_as r ≡ a → answer_in z ≡ a
+handed_on (Ok x) r h e = absurd h
+handed_on (Err y) r h e = ap answer_as h ∙ e
 
 -- ---- checks one after the other
 
@@ -60,11 +71,11 @@ early ((true else refusal) ∷ first) others x e differ = early first others x e
 early ((false else refusal) ∷ first) others x e differ = e
 
 -- where none fails, all hold
-pub each_holds : (checks : List Check) (x : Answer) → Refusing checks → x ≡ first_failing checks → number_of x ≡ 0 → Holding checks
-unfolding first_failing
-each_holds [] x refusing e none = tt
-each_holds ((true else refusal) ∷ checks) x refusing e none = (tt, each_holds checks x refusing.1 e none)
-each_holds ((false else refusal) ∷ checks) x refusing e none = absurd (unlike (sym (done x none) ∙ ap is_done e ∙ refusing.0))
+pub each_holds : (checks : List Check) → Refusing checks → Done ≡ first_failing checks → Holding checks
+unfolding first_failing is_done
+each_holds [] refusing e = tt
+each_holds ((true else refusal) ∷ checks) refusing e = (tt, each_holds checks refusing.1 e)
+each_holds ((false else refusal) ∷ checks) refusing e = absurd (unlike (ap is_done e ∙ refusing.0))
 
 -- where the first hold, the others decide
 pub late : (first others : List Check) → Holding first → first_failing (first ++ others) ≡ first_failing others
@@ -72,6 +83,11 @@ unfolding first_failing
 late [] others h = refl
 late ((true else refusal) ∷ first) others h = late first others h.1
 late ((false else refusal) ∷ first) others h = absurd h.0
+
+-- what an Option hands on as an Ok
+pub handed_some : (w : Option ℕ) (r : Refusal) (n : ℕ) → Ok n ≡ ok_or w r → Some n ≡ w
+handed_some None r n e = absurd cc
+handed_some (Some m) r n e = let same : n ≡ m = cc in cc
 
 -- ---- the array's checks
 
@@ -117,50 +133,53 @@ module _ (ws : List ℕ) where
   unfolding array_checks
   long_says checks h = (record { shortest = leb→le (words 1) (lent_of ws).length h.0; number = h.1.0; enough = leb→le (words (lent_of ws).book.links) (lent_of ws).length h.1.1.0 }, h.1.1.1)
 
-  -- x is what they answer
-  module _ (x : Answer) (x_is : x ≡ array) where
-    pub array_fails : (others : List Check) → number_of x ≢ 0 → x ≡ first_failing (array_checks (lent_of ws) others)
+  pub array_fails : (others : List Check) (r : Refusal) → answer_as r ≡ array → answer_as r ≡ first_failing (array_checks (lent_of ws) others)
+  unfolding array_checks
+  array_fails others r e = early (array_checks (lent_of ws) []) others (answer_as r) e (refuses r)
+
+  module _ (none_fails : Done ≡ array) where
+    array_hold : Holding (array_checks (lent_of ws) [])
+    unfolding array_checks is_done
+    array_hold = each_holds (array_checks (lent_of ws) []) (refl, (refl, (refl, tt))) none_fails
+
+    pub array_long : Long (lent_of ws)
+    array_long = (long_says [] array_hold).0
+
+    pub others_decide : (others : List Check) → first_failing (array_checks (lent_of ws) others) ≡ first_failing others
     unfolding array_checks
-    array_fails others differ = early (array_checks (lent_of ws) []) others x x_is differ
+    others_decide others = late (array_checks (lent_of ws) []) others array_hold
 
-    module _ (none_fails : number_of x ≡ 0) where
-      array_hold : Holding (array_checks (lent_of ws) [])
-      unfolding array_checks is_done
-      array_hold = each_holds (array_checks (lent_of ws) []) x (refl, (refl, (refl, tt))) x_is none_fails
+    pub has_book : HasBook ws
+    unfolding lent_of
+    has_book = record { long = omega (arith, array_long.shortest, book_in_words 1) }
 
-      pub array_long : Long (lent_of ws)
-      array_long = (long_says [] array_hold).0
+    pub has_link : LinkNumber links
+    unfolding lent_of book_of
+    has_link = link_number_lem links (truth (is_link_number links) array_long.number)
 
-      pub others_decide : (others : List Check) → first_failing (array_checks (lent_of ws) others) ≡ first_failing others
-      unfolding array_checks
-      others_decide others = late (array_checks (lent_of ws) []) others array_hold
+    -- the book's check, last of all
+    book_decides : (t : Bool) → sound (book_of ws) ≡ t → elim t [ true ↦ Done | false ↦ BookBroken ] ≡ first_failing (array_checks (lent_of ws) ((sound (book_of ws) else BookBroken) ∷ []))
+    unfolding first_failing
+    book_decides t e = sym (others_decide ((sound (book_of ws) else BookBroken) ∷ []) ∙ ap (λ b. first_failing ((b else BookBroken) ∷ [])) e)
 
-      pub has_words : 0 < length ws
-      unfolding lent_of
-      has_words = omega (arith, array_long.shortest, book_in_words 1)
+    pub book_right : sound (book_of ws) ≡ true → Done ≡ first_failing (array_checks (lent_of ws) ((sound (book_of ws) else BookBroken) ∷ []))
+    book_right e = book_decides true e
 
-      pub has_book : HasBook ws
-      unfolding lent_of
-      has_book = record { long = omega (arith, array_long.shortest, book_in_words 1) }
+    pub book_wrong : sound (book_of ws) ≡ false → BookBroken ≡ first_failing (array_checks (lent_of ws) ((sound (book_of ws) else BookBroken) ∷ []))
+    book_wrong e = book_decides false e
 
-      pub has_link : LinkNumber links
-      unfolding lent_of book_of
-      has_link = link_number_lem links (truth (is_link_number links) array_long.number)
+    -- w is what the book test hands back
+    pub book_answers : (w : Option ℕ) → w ≡ held_if_sound (book_of ws) → answer_in (ok_or w refusal.BookBroken) ≡ first_failing (array_checks (lent_of ws) ((sound (book_of ws) else BookBroken) ∷ []))
+    book_answers None e = book_wrong (none_wrong ws e)
+    book_answers (Some n) e = book_right (held_right ws n e)
 
-      -- the book's check, last of all
-      book_decides : (t : Bool) → sound (book_of ws) ≡ t → elim t [ true ↦ Done | false ↦ BookBroken ] ≡ first_failing (array_checks (lent_of ws) ((sound (book_of ws) else BookBroken) ∷ []))
-      unfolding first_failing
-      book_decides t e = sym (others_decide ((sound (book_of ws) else BookBroken) ∷ []) ∙ ap (λ b. first_failing ((b else BookBroken) ∷ [])) e)
+    pub book_holds : (w : Option ℕ) → w ≡ held_if_sound (book_of ws) → IfOk (ok_or w refusal.BookBroken) (λ n. n ≡ held (queue_of (lent_of ws)))
+    unfolding lent_of book_of
+    book_holds None e = tt
+    book_holds (Some n) e = weighed_held ws (sound_inside ws (held_right ws n e) array_long.enough) n e
 
-      pub book_right : sound (book_of ws) ≡ true → Done ≡ first_failing (array_checks (lent_of ws) ((sound (book_of ws) else BookBroken) ∷ []))
-      book_right e = book_decides true e
+-- ---- what the code's checks search by
 
-      pub book_wrong : sound (book_of ws) ≡ false → BookBroken ≡ first_failing (array_checks (lent_of ws) ((sound (book_of ws) else BookBroken) ∷ []))
-      book_wrong e = book_decides false e
+pub ruleset of_array = (too_short, no_link, many_links, short_for_links, long_enough)
 
-      -- n is what the book test hands back
-      pub book_held : (n : ℕ) → n ≡ held_if_sound (book_of ws) → n < broken → n ≡ held (queue_of (lent_of ws))
-      unfolding lent_of book_of
-      book_held n n_is less =
-          let right = below_broken ws n n_is less in
-          weighed_held ws (sound_inside ws right array_long.enough) n n_is right
+pub ruleset of_book = (handed_on, array_fails, has_book, book_answers, book_holds)

@@ -9,9 +9,7 @@ use lib.Dec.{T, T_not}
 use lib.ListN.{length, set}
 use lib.Seq.{get_or-set_other}
 use Rattle.rules.specs.declared.Rule.{Rule}
-use Rattle.rules.specs.declared.Answer.{Answer}
-use Rattle.rules.specs.declared.Answer.TheVariants.{Done}
-use Rattle.rules.specs.Answers.{number_of, is_done}
+use Rattle.rules.specs.Answers.{Answer, Done, is_done, number_of}
 use Rattle.rules.specs.Entries.{key_by}
 use Rattle.rules.specs.Links.{k, number_of_s, buffer_count, words}
 use Rattle.rules.specs.Tree.{links_from, tree_of}
@@ -41,7 +39,7 @@ use Rattle.queue.specs.Calls.{Called, WorkKept}
 use Rattle.sweeps.specs.Room.{CanMove, CanSweep, CanMakeRoom, MadeRoom}
 use Rattle.takes.proofs.ReadyLaws.{insertion_has, insertion_is}
 use Rattle.queue.proofs.BookLaws.{shaped, sound_after}
-use Rattle.queue.proofs.CheckLaws.{done, not_done}
+use Rattle.queue.proofs.CheckLaws.{not_done}
 use Rattle.queue.proofs.CallLaws.{done_is, accepted_is, refusal_called, accepted_called, inside, can_take, kept_now, same_queue}
 
 -- ---- where the book rules hold but for I, a sweep may be made to the lowest link
@@ -120,9 +118,9 @@ module _ (ws work : List ℕ) (entry : ℕ) where
       insert_call_cases (lent_of ws) (λ o. T (is_done o.answer) → MayInsert (length work) entry (lent_of ws)) (λ answer r t. absurd (T_not (is_done answer) r.not_done t)) (length work) entry (λ m t. m)
       (subst T (sym (ap (λ (o : Outcome). is_done o.answer) (insert_is e) ∙ done_is ws)) tt)
 
-  module _ (x : Answer) (x_is : x ≡ checks) (none_fails : number_of x ≡ 0) where
+  module _ (none_fails : Done ≡ checks) where
     all_hold : is_done checks ≡ true
-    all_hold = ap is_done (sym x_is) ∙ done x none_fails
+    all_hold = ap is_done (sym none_fails) ∙ done_is ws
 
     may : MayInsert (length work) entry (lent_of ws)
     may = may_insert all_hold

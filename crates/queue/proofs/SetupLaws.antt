@@ -8,9 +8,7 @@ use native.Mathlib.Omega.{arith}
 use borrow.Author.Tests.{le-leb, lt-leb}
 use lib.Dec.{T, leb}
 use lib.ListN.{length, take, drop, replicate, get_or}
-use Rattle.rules.specs.declared.Answer.{Answer}
-use Rattle.rules.specs.declared.Answer.TheVariants.{Done, NoSuchLinks, ArrayShort}
-use Rattle.rules.specs.Answers.{is_done}
+use Rattle.rules.specs.Answers.{Answer, Done, NoSuchLinks, ArrayShort, is_done}
 use Rattle.rules.specs.Links.{from, buffer_count, words, most_links, LinkNumber}
 use Rattle.rules.specs.Tree.{tree_of}
 use Rattle.rules.specs.Queue.{fresh}
@@ -81,9 +79,9 @@ module _ (ws : List ℕ) (links : ℕ) where
   unfolding first_failing
   answer_now t u e f = λ i. first_failing ((e i else NoSuchLinks) ∷ (f i else ArrayShort) ∷ [])
 
-  setup_refusal : (y : Answer) → y ≡ first_failing checks → is_done y ≡ false → Called ws ws (setup links (lent_of ws)) y 0 0 false
+  setup_refusal : (x : Answer) → x ≡ first_failing checks → is_done x ≡ false → Called ws ws (setup links (lent_of ws)) x 0 0 false
   unfolding setup lent_of
-  setup_refusal y e f = refusal_called ws (first_failing checks) accepted y e f
+  setup_refusal x e f = refusal_called ws (first_failing checks) accepted x e f
 
   -- "1 | no such number of links"
   not_a_number : is_link_number links ≡ false → Called ws ws (setup links (lent_of ws)) NoSuchLinks 0 0 false

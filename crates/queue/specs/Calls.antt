@@ -1,8 +1,9 @@
 -- What a call over the array promises: the rules' outcome, and the array as they determine it.
-use Rattle.std.specs.Prelude.{◌≡◌, Bool, true, false, List, ℕ, ◌≤◌, length, get_or}
+use Rattle.std.specs.Prelude.{◌≡◌, Bool, true, false, List, ℕ, ◌≤◌, length, get_or, Result}
 use Rattle.rules.specs.Links.{book_words, words, most}
-use Rattle.rules.specs.declared.Answer.{Answer}
-use Rattle.rules.specs.Answers.{number_of, is_done}
+use Rattle.rules.specs.Answers.{Answer, number_of, is_done, answer_in, word_in, steps_in, packed_in}
+use Rattle.rules.specs.declared.Done.{Done}
+use Rattle.rules.specs.declared.Refusal.{Refusal}
 use Rattle.rules.specs.Book.{sound}
 use Rattle.rules.specs.Calls as rules
 use Rattle.rules.specs.Examples.{Order, setup_of, insert_of, take_it, look_at, held_now, audit_it}
@@ -21,6 +22,10 @@ pub record Called (ws ws' : List ℕ) (o : rules.Outcome) (answer : Answer) (wor
   pub refused : is_done answer ≡ false → ws' ≡ ws
   pub queue_is : is_done answer ≡ true → rules.queue_of (lent_of ws') ≡ o.queue
   pub sound_is : is_done answer ≡ true → sound (book_of ws') ≡ true
+
+-- the same of what a call gives back
+abbrev pub Gives : (ws ws' : List ℕ) (o : rules.Outcome) → Result Done Refusal → Type 0
+Gives ws ws' o r = Called ws ws' o (answer_in r) (word_in r) (steps_in r) (packed_in r)
 
 -- "slots keep their words": every word behind the book is as it was
 abbrev pub SlotsKept : List ℕ → List ℕ → Type 0
