@@ -1,80 +1,81 @@
 -- Labels and numbers that are laid one behind another are a line.
-use Prim.Native.Nat.{ℕ, ◌*◌, ◌≤◌, ◌<◌}
+use Prim.Native.Nat.{ℕ}
 use Prim.Native.String.{String}
-use mathlib.Core.Path.{◌≡◌, subst}
-use mathlib.Core.List.{List, ◌++◌}
-use native.Mathlib.Omega.{arith}
-use lib.ListN.{length}
+use mathlib.Core.Path.{◌≡◌, sym, ap, ◌∙◌}
+use mathlib.Core.List.{List, [], ◌++◌, append_assoc}
 use lib.IntN.{ℤ}
-use lib.Signed.{mag}
 use mir.Syntax.{w64}
 use mir.Val.{SFits, to_z, of_z}
 use mir.ValLaws.{to_z-of_z}
-use Rattle.lateness.specs.Clock.{half}
 use Rattle.lateness.specs.declared.Seen.{Seen}
 use Rattle.lateness.specs.declared.Row.{Row}
 use Rattle.lateness.specs.declared.Report.{Report}
 use Rattle.text.specs.Bytes.{bytes}
 use Rattle.text.specs.Decimal.{decimal, signed}
-use Rattle.text.specs.Laid.{Laid}
-use Rattle.text.proofs.LaidLaws.{laid_behind}
-use Rattle.late.specs.Lines.{count, late, seen_text, mean_text, row_line, report_lines, no_pair, door_above}
+use Rattle.late.specs.declared.Trouble.{Trouble}
+use Rattle.late.specs.declared.Trouble.TheVariants.{TooManyLines, NoPair, DoorAbove}
+use Rattle.late.specs.Lines.{count, late, seen_text, mean_text, row_line, report_lines, too_many_lines, no_pair, door_above, trouble_line}
+
+-- two texts, one behind the other, are one behind what was there
+behind : (a one two : List ℕ) {b c : List ℕ} → b ≡ a ++ one → c ≡ b ++ two → c ≡ a ++ (one ++ two)
+behind a one two x y = y ∙ ap (λ l. l ++ two) x ∙ append_assoc a one two
 
 -- ---- a label and a number
 
-pub as_count : (label : String) {n m at end : ℕ} {before after : List ℕ} → n ≡ m → Laid (bytes label ++ decimal n) at before after end → Laid (count label m) at before after end
+pub as_count : (label : String) (before : List ℕ) (n : ℕ) {after : List ℕ} → after ≡ before ++ bytes label ++ decimal n → after ≡ before ++ count label n
 unfolding count
-as_count label {at = at} {end = end} {before = before} {after = after} e laid = subst (λ n. Laid (bytes label ++ decimal n) at before after end) e laid
+as_count label before n laid = laid ∙ append_assoc before (bytes label) (decimal n)
 
-pub as_late : (label : String) {n m : ℤ} {at end : ℕ} {before after : List ℕ} → n ≡ m → Laid (bytes label ++ signed n) at before after end → Laid (late label m) at before after end
+pub as_late : (label : String) (before : List ℕ) {z : ℤ} {after : List ℕ} → SFits w64 z → after ≡ before ++ bytes label ++ signed (to_z w64 (of_z w64 z)) → after ≡ before ++ late label z
 unfolding late
-as_late label {at = at} {end = end} {before = before} {after = after} e laid = subst (λ n. Laid (bytes label ++ signed n) at before after end) e laid
-
--- what was lent as a number of 64 bits is that number
-pub signed_behind : {label before middle after : List ℕ} {z : ℤ} {at end₁ end₂ : ℕ} → SFits w64 z → at ≤ length before → Laid label at before middle end₁
-    → Laid (signed (to_z w64 (of_z w64 z))) end₁ middle after end₂ → Laid (label ++ signed z) at before after end₂
-signed_behind {middle = middle} {after = after} {z = z} {end₁ = end₁} {end₂ = end₂} f inside x y =
-    laid_behind inside x (subst (λ (n : ℤ). Laid (signed n) end₁ middle after end₂) (to_z-of_z w64 z f) y)
-
--- a sum and a lateness are so small that they are read as they stand
-pub sum_as_read : {z : ℤ} → mag z ≤ 4096 * half → to_z w64 (of_z w64 z) ≡ z
-sum_as_read {z} h = to_z-of_z w64 z (record { sfits = omega arith })
-
-pub late_as_read : {z : ℤ} → mag z < half → to_z w64 (of_z w64 z) ≡ z
-late_as_read {z} h = to_z-of_z w64 z (record { sfits = omega arith })
+as_late label before {z} fits laid = laid ∙ append_assoc before (bytes label) (signed (to_z w64 (of_z w64 z))) ∙ ap (λ n. before ++ (bytes label ++ signed n)) (to_z-of_z w64 z fits)
 
 -- ---- one behind another
 
-module _ (seen : Seen) {at e₁ e₂ e₃ e₄ e₅ : ℕ} {a b c d e f : List ℕ} (inside : at ≤ length a) where
-  pub seen_laid : Laid (count "count " seen.count) at a b e₁ → Laid (late "  earliest " seen.earliest) e₁ b c e₂ → Laid (late "  latest " seen.latest) e₂ c d e₃
-      → Laid (late "  sum " seen.sum) e₃ d e e₄ → Laid (count "  exact " seen.exact) e₄ e f e₅ → Laid (seen_text seen) at a f e₅
+module _ (seen : Seen) (a : List ℕ) {b c d e f : List ℕ} where
+  pub seen_laid : b ≡ a ++ count "count " seen.count → c ≡ b ++ late "  earliest " seen.earliest → d ≡ c ++ late "  latest " seen.latest → e ≡ d ++ late "  sum " seen.sum
+      → f ≡ e ++ count "  exact " seen.exact → f ≡ a ++ seen_text seen
   unfolding seen_text
-  seen_laid v w x y z = laid_behind inside (laid_behind inside (laid_behind inside (laid_behind inside v w) x) y) z
+  seen_laid v w x y z =
+      let one = count "count " seen.count in
+      let two = one ++ late "  earliest " seen.earliest in
+      let three = two ++ late "  latest " seen.latest in
+      let four = three ++ late "  sum " seen.sum in
+      behind a four (count "  exact " seen.exact) (behind a three (late "  sum " seen.sum) (behind a two (late "  latest " seen.latest) (behind a one (late "  earliest " seen.earliest) v w) x) y) z
 
-module _ (seen : Seen) {at e₁ e₂ : ℕ} {a b c : List ℕ} (inside : at ≤ length a) where
-  pub mean_laid : Laid (late "  mean " seen.sum) at a b e₁ → Laid (count "/" seen.count) e₁ b c e₂ → Laid (mean_text seen) at a c e₂
+module _ (seen : Seen) (a : List ℕ) {b c : List ℕ} where
+  pub mean_laid : b ≡ a ++ late "  mean " seen.sum → c ≡ b ++ count "/" seen.count → c ≡ a ++ mean_text seen
   unfolding mean_text
-  mean_laid y z = laid_behind inside y z
+  mean_laid y z = behind a (late "  mean " seen.sum) (count "/" seen.count) y z
 
-module _ (name : List ℕ) (row : Row) {at e₁ e₂ e₃ e₄ e₅ : ℕ} {a b c d e f : List ℕ} (inside : at ≤ length a) where
-  pub row_laid : Laid name at a b e₁ → Laid (seen_text row.seen) e₁ b c e₂ → Laid (late "  median " row.median) e₂ c d e₃ → Laid (mean_text row.seen) e₃ d e e₄
-      → Laid (bytes "\n") e₄ e f e₅ → Laid (row_line name row) at a f e₅
+module _ (name : List ℕ) (row : Row) (a : List ℕ) {b c d e f : List ℕ} where
+  pub row_laid : b ≡ a ++ name → c ≡ b ++ seen_text row.seen → d ≡ c ++ late "  median " row.median → e ≡ d ++ mean_text row.seen → f ≡ e ++ bytes "\n" → f ≡ a ++ row_line name row
   unfolding row_line
-  row_laid v w x y z = laid_behind inside (laid_behind inside (laid_behind inside (laid_behind inside v w) x) y) z
+  row_laid v w x y z =
+      let two = name ++ seen_text row.seen in
+      let three = two ++ late "  median " row.median in
+      let four = three ++ mean_text row.seen in
+      behind a four (bytes "\n") (behind a three (mean_text row.seen) (behind a two (late "  median " row.median) (behind a name (seen_text row.seen) v w) x) y) z
 
-module _ (report : Report) {e₁ e₂ e₃ : ℕ} {a b c d : List ℕ} where
-  pub report_laid : Laid (row_line (bytes "both   ") report.both) 0 a b e₁ → Laid (row_line (bytes "left   ") report.left) e₁ b c e₂
-      → Laid (row_line (bytes "right  ") report.right) e₂ c d e₃ → Laid (report_lines report) 0 a d e₃
+module _ (report : Report) {a b c : List ℕ} where
+  pub report_laid : a ≡ [] ++ row_line (bytes "both   ") report.both → b ≡ a ++ row_line (bytes "left   ") report.left → c ≡ b ++ row_line (bytes "right  ") report.right → c ≡ report_lines report
   unfolding report_lines
-  report_laid x y z = laid_behind (omega arith) (laid_behind (omega arith) x y) z
+  report_laid x y z =
+      let both = row_line (bytes "both   ") report.both in
+      let left = row_line (bytes "left   ") report.left in
+      behind [] (both ++ left) (row_line (bytes "right  ") report.right) (behind [] both left x y) z
 
--- ---- refusals that name a line
+-- ---- refusals
 
-module _ {n line end : ℕ} {before after : List ℕ} (is : n ≡ line) where
-  pub no_pair_laid : Laid (bytes "refused 10: line " ++ decimal n ++ bytes " is no pair\n") 0 before after end → Laid (no_pair line) 0 before after end
-  unfolding no_pair count
-  no_pair_laid laid = subst (λ n. Laid (bytes "refused 10: line " ++ decimal n ++ bytes " is no pair\n") 0 before after end) is laid
+module _ {out b : List ℕ} {trouble : Trouble} (empty : out ≡ []) where
+  pub many_laid : trouble ≡ TooManyLines → b ≡ out ++ bytes "refused 15: more than 4096 lines\n" → b ≡ trouble_line trouble
+  unfolding trouble_line too_many_lines
+  many_laid e x = x ∙ ap (λ l. l ++ bytes "refused 15: more than 4096 lines\n") empty ∙ ap trouble_line (sym e)
 
-  pub above_laid : Laid (bytes "refused 7: line " ++ decimal n ++ bytes " has a door above 2\n") 0 before after end → Laid (door_above line) 0 before after end
-  unfolding door_above count
-  above_laid laid = subst (λ n. Laid (bytes "refused 7: line " ++ decimal n ++ bytes " has a door above 2\n") 0 before after end) is laid
+  pub no_pair_laid : (line : ℕ) {a : List ℕ} → trouble ≡ NoPair line → a ≡ out ++ bytes "refused 10: line " ++ decimal line → b ≡ a ++ bytes " is no pair\n" → b ≡ trouble_line trouble
+  unfolding trouble_line no_pair count
+  no_pair_laid line e x y = y ∙ ap (λ l. l ++ bytes " is no pair\n") (x ∙ ap (λ l. l ++ bytes "refused 10: line " ++ decimal line) empty) ∙ ap trouble_line (sym e)
+
+  pub above_laid : (line : ℕ) {a : List ℕ} → trouble ≡ DoorAbove line → a ≡ out ++ bytes "refused 7: line " ++ decimal line → b ≡ a ++ bytes " has a door above 2\n" → b ≡ trouble_line trouble
+  unfolding trouble_line door_above count
+  above_laid line e x y = y ∙ ap (λ l. l ++ bytes " has a door above 2\n") (x ∙ ap (λ l. l ++ bytes "refused 7: line " ++ decimal line) empty) ∙ ap trouble_line (sym e)

@@ -6,10 +6,10 @@ use Rattle.std.proofs.lemmas.Bool.{true≢false}
 use mathlib.Core.List.{List, [], ◌++◌, flatten, append-nil}
 use native.Mathlib.Omega.{arith}
 use lib.ListN.{length, take, length-append}
-use Rattle.std.specs.Prelude.{IfSome, Option, None, Some}
-use Rattle.std.specs.Io.KnownBytes.{Consumes, IsAtEnd}
-use Rattle.std.proofs.KnownBytes.{Consumes-nil, Consumes-trans}
-use Rattle.streams.specs.Fronts.{ConsumesFront}
+use Rattle.std.specs.Prelude.{IfSome, Option, None, Some, Result, Ok, Err}
+use Rattle.std.specs.Io.KnownBytes.{Appends, Consumes, IsAtEnd}
+use Rattle.std.proofs.KnownBytes.{Appends-nil, Consumes-nil, Consumes-trans}
+use Rattle.streams.specs.Fronts.{AppendsFront, ConsumesFront}
 use Rattle.lines.specs.Cutter.{kept_after}
 use Rattle.pairs.specs.Reads.{reads_of, reads_from, last_reads}
 use Rattle.pairs.specs.State.{State, state_of, lines_after}
@@ -17,9 +17,10 @@ use Rattle.pairs.specs.declared.Heard.{Heard as Heard'}
 use Rattle.pairs.specs.Kept.{Kept}
 use Rattle.pairs.specs.Calls.{HeardSoFar, Fed}
 use Rattle.pairs.proofs.CallLaws.{so_begins, so_on, so_ends, fed_kept}
-use Rattle.text.specs.Laid.{Laid}
-use Rattle.text.proofs.LaidLaws.{laid_reads}
-use Rattle.late.specs.Says.{Says, says, state_said}
+use Rattle.lateness.specs.declared.Report.{Report}
+use Rattle.late.specs.declared.Trouble.{Trouble}
+use Rattle.late.specs.Lines.{report_lines, trouble_line}
+use Rattle.late.specs.Says.{Says, says, state_said, said}
 use Rattle.late.specs.Runs.{Told, ToldFront, TellsHeard, TellsFront, HearsPiece, PairsOf}
 use Rattle.late.proofs.SaidLaws.{kept_said_lem}
 
@@ -99,20 +100,39 @@ pub heard_so_far : {n : ℕ} {begun s : State} {k : List ℕ} {left left' : Opti
 heard_so_far h = (h.bytes, h.consumed)
 
 -- what is handed over to be written, and as what
-pub handed : {begun s s' : State} {bytes k : List ℕ} {refused : Bool} {before after : List ℕ} {end : ℕ} → Kept [] begun → HeardSoFar begun bytes s k → s' ≡ lines_after s (last_reads k)
-    → refused ≡ (state_said s').refused → Laid (state_said s').text 0 before after end → record { refused = refused; text = take end after } ≡ says (reads_of bytes)
-handed kept so e r laid = same r (laid_reads laid) ∙ so_said kept so e
+pub handed : {begun s s' : State} {bytes k : List ℕ} {refused : Bool} {text : List ℕ} → Kept [] begun → HeardSoFar begun bytes s k → s' ≡ lines_after s (last_reads k)
+    → refused ≡ (state_said s').refused → text ≡ (state_said s').text → record { refused = refused; text = text } ≡ says (reads_of bytes)
+handed kept so e r t = same r t ∙ so_said kept so e
   where
     same : {refused : Bool} {text : List ℕ} {s : Says} → refused ≡ s.refused → text ≡ s.text → record { refused = refused; text = text } ≡ s
     same r t = rw (r, t) refl
 
-module _ {s s' : State} {k : List ℕ} {refused : Bool} {before after : List ℕ} {end : ℕ} {out out' err err' : Option (List ℕ)} (e : s' ≡ lines_after s (last_reads k))
-    (r : refused ≡ (state_said s').refused) (laid : Laid (state_said s').text 0 before after end) where
-  pub answered : Told (record { refused = refused; text = take end after }) out out' err err' → TellsHeard s k out out' err err'
-  answered told begun bytes kept so = subst (λ (s : Says). Told s out out' err err') (handed kept so e r laid) told
+module _ {s s' : State} {k : List ℕ} {said : Says} {out out' err err' : Option (List ℕ)} (e : s' ≡ lines_after s (last_reads k)) (is : said ≡ state_said s') where
+  pub answered : Told said out out' err err' → TellsHeard s k out out' err err'
+  answered told begun bytes kept so = subst (λ (s : Says). Told s out out' err err') (handed kept so e (ap (λ (s : Says). s.refused) is) (ap (λ (s : Says). s.text) is)) told
 
-  pub answered_front : ToldFront (record { refused = refused; text = take end after }) out out' err err' → TellsFront s k out out' err err'
-  answered_front told begun bytes kept so = subst (λ (s : Says). ToldFront s out out' err err') (handed kept so e r laid) told
+  pub answered_front : ToldFront said out out' err err' → TellsFront s k out out' err err'
+  answered_front told begun bytes kept so = subst (λ (s : Says). ToldFront s out out' err err') (handed kept so e (ap (λ (s : Says). s.refused) is) (ap (λ (s : Says). s.text) is)) told
+
+-- ---- what is written, and where
+
+module _ {answer : Result Report Trouble} {text : List ℕ} {out out' err : Option (List ℕ)} where
+  pub report_told : {r : Report} → answer ≡ Ok r → text ≡ report_lines r → Appends out out' text → Told (said answer) out out' err err
+  unfolding said
+  report_told e t a = subst (λ (s : Says). Told s out out' err err) (sym (ap said e)) (record { reported = subst (Appends out out') t a; refused = Appends-nil err })
+
+  pub report_front : {r : Report} → answer ≡ Ok r → text ≡ report_lines r → AppendsFront out out' text → ToldFront (said answer) out out' err err
+  unfolding said
+  report_front e t a = subst (λ (s : Says). ToldFront s out out' err err) (sym (ap said e)) (record { reported = subst (AppendsFront out out') t a; refused = (0, Appends-nil err) })
+
+module _ {answer : Result Report Trouble} {text : List ℕ} {out err err' : Option (List ℕ)} where
+  pub trouble_told : {trouble : Trouble} → answer ≡ Err trouble → text ≡ trouble_line trouble → Appends err err' text → Told (said answer) out out err err'
+  unfolding said
+  trouble_told e t a = subst (λ (s : Says). Told s out out err err') (sym (ap said e)) (record { reported = Appends-nil out; refused = subst (Appends err err') t a })
+
+  pub trouble_front : {trouble : Trouble} → answer ≡ Err trouble → text ≡ trouble_line trouble → AppendsFront err err' text → ToldFront (said answer) out out err err'
+  unfolding said
+  trouble_front e t a = subst (λ (s : Says). ToldFront s out out err err') (sym (ap said e)) (record { reported = (0, Appends-nil out); refused = subst (AppendsFront err err') t a })
 
 pub pairs_after : {due acting doors : List ℕ} (h : Heard') {s : State} → state_of due acting doors h ≡ s → PairsOf due acting doors s
 pairs_after h e = (ap (λ (s : State). s.due) e, ap (λ (s : State). s.acting) e, ap (λ (s : State). s.doors) e)

@@ -4,6 +4,8 @@ use Prim.Native.String.{String}
 use Rattle.lateness.specs.declared.Seen.{Seen}
 use Rattle.lateness.specs.declared.Row.{Row}
 use Rattle.lateness.specs.declared.Report.{Report}
+use Rattle.late.specs.declared.Trouble.{Trouble}
+use Rattle.late.specs.declared.Trouble.TheVariants.{TooManyLines, NoPair, DoorAbove}
 use Rattle.text.specs.Bytes.{bytes}
 use Rattle.text.specs.Decimal.{places, digits, decimal, signed}
 
@@ -50,3 +52,9 @@ no_pair line = count "refused 10: line " line ++ bytes " is no pair\n"
 unfoldable pub door_above : ℕ → List ℕ
 unfolding count bytes
 door_above line = count "refused 7: line " line ++ bytes " has a door above 2\n"
+
+unfoldable pub trouble_line : Trouble → List ℕ
+unfolding too_many_lines no_pair door_above
+trouble_line TooManyLines = too_many_lines
+trouble_line (NoPair line) = no_pair line
+trouble_line (DoorAbove line) = door_above line

@@ -4,9 +4,10 @@ use Rattle.std.specs.Io.KnownBytes.{Appends, Consumes, IsAtEnd}
 use Rattle.streams.specs.Fronts.{AppendsFront}
 use Rattle.lines.specs.Cutter.{kept_after}
 use Rattle.pairs.specs.Reads.{reads_from, reads_of}
-use Rattle.pairs.specs.State.{State, lines_after}
+use Rattle.pairs.specs.State.{State, state_of, lines_after}
 use Rattle.pairs.specs.Kept.{Kept}
 use Rattle.pairs.specs.Calls.{HeardSoFar}
+use Rattle.late.specs.declared.Day.{Day}
 use Rattle.late.specs.Says.{Says, says}
 
 -- a report is all that goes to standard output, and a refusal all that goes to standard error; the other gets nothing
@@ -38,3 +39,7 @@ TellsFront s k out out' err err' = (begun : State) → (bytes : List ℕ) → Ke
 -- the three lent arrays have the pairs of this state
 abbrev pub PairsOf : List ℕ → List ℕ → List ℕ → State → Type 0
 PairsOf due acting doors s = (due ≡ s.due) × (acting ≡ s.acting) × (doors ≡ s.doors)
+
+-- what is kept of the lines so far
+abbrev pub day_state : Day → State
+day_state d = state_of d.due d.acting d.doors d.heard

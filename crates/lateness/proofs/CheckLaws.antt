@@ -1,47 +1,21 @@
 -- The first door byte above 2, and the answer that lists of pairs get.
-use Rattle.std.proofs.Common.{◌≡◌, ℕ, zero, suc, ◌+◌, ◌<◌, ◌≤◌, Bool, true, cond, ◌&&◌, eqb, ltb, ◌≢◌, List, [], ◌∷◌, length, get_or, drop, sym, refl, ap, ◌∙◌, subst, ⊎_elim, arith, drop-cons}
-use lib.Seq.{drop-length}
+use Rattle.std.proofs.Common.{◌≡◌, ℕ, zero, suc, ◌+◌, ◌<◌, ◌≤◌, Bool, true, cond, ◌&&◌, eqb, ltb, ◌≢◌, List, [], ◌∷◌, length, get_or, sym, refl, ◌∙◌, subst, ⊎_elim, arith}
 use Rattle.rules.proofs.Sizes.{by_eqb, leb-false}
 use Rattle.rules.proofs.Capacity.{leb-true}
 use Rattle.lateness.specs.Reports.{first_above, answer_of}
 use Rattle.lateness.proofs.ClockLaws.{under_or_not}
 
--- ---- looked through up to a place
-
-pub record Looked (doors : List ℕ) (i : ℕ) : Type 0 where
-  pub inside : i ≤ length doors
-  pub rest : first_above doors ≡ i + first_above (drop i doors)
-
-pub looked_none : (doors : List ℕ) → Looked doors 0
-looked_none doors = record { inside = omega arith; rest = omega arith }
-
-first_here : (b : ℕ) (doors : List ℕ) → 2 < b → first_above (b ∷ doors) ≡ 0
+pub above_none : first_above [] ≡ 0
 unfolding first_above
-first_here b doors h = rw (leb-true 3 b h, first_above) refl
+above_none = refl
 
-first_later : (b : ℕ) (doors : List ℕ) → b ≤ 2 → first_above (b ∷ doors) ≡ suc (first_above doors)
+pub above_here : (b : ℕ) (doors : List ℕ) → 2 < b → first_above (b ∷ doors) ≡ 0
 unfolding first_above
-first_later b doors h = rw (leb-false 3 b (omega arith), first_above) refl
+above_here b doors h = rw (leb-true 3 b h, first_above) refl
 
-module _ {doors : List ℕ} {i : ℕ} (looked : Looked doors i) where
-  pub looked_more : {next : ℕ} → next ≡ i + 1 → i < length doors → get_or doors i 0 ≤ 2 → Looked doors next
-  looked_more {next} n h b =
-      let apart = ap first_above (drop-cons doors i 0 h) ∙ first_later (get_or doors i 0) (drop (suc i) doors) b in
-      let same : suc i ≡ next = omega arith in
-      record { inside = omega arith; rest = omega (arith, looked.rest, apart, ap (λ k. first_above (drop k doors)) same) }
-
-  pub looked_here : i < length doors → 2 < get_or doors i 0 → i ≡ first_above doors
-  looked_here h b = omega (arith, looked.rest, ap first_above (drop-cons doors i 0 h) ∙ first_here (get_or doors i 0) (drop (suc i) doors) b)
-
-  pub looked_all : length doors ≤ i → i ≡ first_above doors
-  unfolding first_above
-  looked_all h =
-      let end : i ≡ length doors = omega (arith, looked.inside) in
-      let none : first_above (drop i doors) ≡ 0 = ap (λ k. first_above (drop k doors)) end ∙ ap first_above (drop-length doors) in
-      omega (arith, looked.rest, none)
-
--- what `first_above` is proved by
-pub ruleset looked_laws = (looked_none, looked_more, looked_here, looked_all)
+pub above_later : (b : ℕ) (doors : List ℕ) → b ≤ 2 → first_above (b ∷ doors) ≡ first_above doors + 1
+unfolding first_above
+above_later b doors h = rw (leb-false 3 b (omega arith), first_above) (omega arith)
 
 -- ---- the answer
 
@@ -91,17 +65,17 @@ pub ruleset answer_laws = (other_dues, other_actings, too_many, door_above, acce
 pub above_there : (doors : List ℕ) → first_above doors < length doors → 2 < get_or doors (first_above doors) 0
 above_there [] h = absurd (omega arith)
 above_there (b ∷ doors) h = ⊎_elim
-    (λ l. subst (λ n. 2 < get_or (b ∷ doors) n 0) (sym (first_here b doors l)) l)
+    (λ l. subst (λ n. 2 < get_or (b ∷ doors) n 0) (sym (above_here b doors l)) l)
     (λ g.
-    let later = first_later b doors g in
+    let later : first_above (b ∷ doors) ≡ suc (first_above doors) = omega (arith, above_later b doors g) in
     subst (λ n. 2 < get_or (b ∷ doors) n 0) (sym later) (above_there doors (omega (arith, later))))
     (under_or_not 2 b)
 
 pub none_above : (doors : List ℕ) → length doors ≤ first_above doors → (i : ℕ) → i < length doors → get_or doors i 0 ≤ 2
 none_above [] h i l = absurd (omega arith)
 none_above (b ∷ doors) h i l = ⊎_elim
-    (λ a. absurd (omega (arith, first_here b doors a)))
-    (λ g. each i g (none_above doors (omega (arith, first_later b doors g))) l)
+    (λ a. absurd (omega (arith, above_here b doors a)))
+    (λ g. each i g (none_above doors (omega (arith, above_later b doors g))) l)
     (under_or_not 2 b)
   where
     each : (i : ℕ) → b ≤ 2 → ((i : ℕ) → i < length doors → get_or doors i 0 ≤ 2) → i < suc (length doors) → get_or (b ∷ doors) i 0 ≤ 2

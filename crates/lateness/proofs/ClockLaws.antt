@@ -1,16 +1,13 @@
 -- Lateness as a signed number: what it is on each side of half the clock, and that it stays within it.
-use Rattle.std.proofs.Common.{◌≡◌, ℕ, suc, ◌+◌, ◌-◌, ◌%◌, ◌^◌, ◌<◌, ◌≤◌, leb, ◌⊎◌, ℤ, pos, negsuc, ◌+ℤ◌, ◌-ℤ◌, sym, refl, ap, ◌∙◌, inl, inr, ⊎_elim, arith, w64, SFits, to_z, of_z}
+use Rattle.std.proofs.Common.{◌≡◌, ℕ, suc, ◌+◌, ◌-◌, ◌%◌, ◌^◌, ◌<◌, ◌≤◌, leb, ◌⊎◌, ℤ, pos, negsuc, ◌+ℤ◌, ◌-ℤ◌, sym, refl, ap, ◌∙◌, inl, inr, ⊎_elim, arith, w32, w64, SFits, to_z}
 use lib.IntN.{sub_ℕ}
 use lib.Signed.{mag, le_z}
-use mir.ValLaws.{to_z_pos, to_z-of_z}
+use mir.ValLaws.{to_z_pos, to_z-neg}
 use Rattle.rules.proofs.Sizes.{by_leb, leb-false}
 use Rattle.rules.proofs.Capacity.{leb-true}
 use Rattle.lateness.specs.Clock.{turn, half, distance, lateness_of, above_of, late_at}
 
 -- ---- signed numbers of 64 bits
-
-pub wide : (n : ℕ) → n < 2 ^ 63 → to_z w64 n ≡ pos n
-wide n h = to_z_pos w64 n h
 
 pub small : {z : ℤ} → mag z < 2 ^ 63 → SFits w64 z
 small h = record { sfits = h }
@@ -51,26 +48,26 @@ in_clock due acting = ⊎_elim late early (under_or_not (distance due acting) ha
 
 -- ---- as it is computed, from the wrapped difference
 
-module _ {due acting r : ℕ} (small_due : due < turn) (small_acting : acting < turn) (small_r : r < turn) (wraps : (r + due) % turn ≡ acting) where
-  pub is_distance : r ≡ distance due acting
-  unfolding distance
-  is_distance = omega (arith, wraps)
+-- half a turn more than a number of 32 bits reads is a turn more than it reads from there on
+read_early : (n : ℕ) → half ≤ n → n < turn → to_z w32 n ≡ negsuc (turn - suc n)
+read_early n h s =
+    let same : 2 ^ 32 - suc (turn - suc n) ≡ n = omega arith in
+    ap (to_z w32) (sym same) ∙ to_z-neg w32 (turn - suc n) (omega arith)
 
-  pub late_by : r < half → to_z w64 r ≡ lateness_of due acting
-  late_by h =
-      let e = is_distance in
-      wide r (omega (arith, small_r)) ∙ ap pos e ∙ sym (forth due acting (omega (arith, e)))
+as_read : (due acting : ℕ) → to_z w32 (distance due acting) ≡ lateness_of due acting
+as_read due acting = ⊎_elim
+    (λ h. to_z_pos w32 (distance due acting) h ∙ sym (forth due acting h))
+    (λ h.
+    let s = distance_short due acting in
+    read_early (distance due acting) h s ∙ sym (back due acting h ∙ less_early (distance due acting) turn s))
+    (under_or_not (distance due acting) half)
 
-  less_turn : to_z w64 r -ℤ pos turn ≡ negsuc (turn - suc r)
-  less_turn = rw (wide r (omega (arith, small_r))) (less_early r turn small_r)
+is_distance : (due acting : ℕ) → due < turn → (acting + (turn - due)) % turn ≡ distance due acting
+unfolding distance
+is_distance due acting small = let same : acting + (turn - due) ≡ acting + turn - due = omega arith in ap (λ n. n % turn) same
 
-  pub early_fits : SFits w64 (to_z w64 r -ℤ pos turn)
-  early_fits = rw less_turn (small (omega arith))
-
-  pub early_by : half ≤ r → to_z w64 (of_z w64 (to_z w64 r -ℤ pos turn)) ≡ lateness_of due acting
-  early_by h =
-      let e = is_distance in
-      to_z-of_z w64 (to_z w64 r -ℤ pos turn) early_fits ∙ rw (wide r (omega (arith, small_r))) (ap (λ d. pos d -ℤ pos turn) e ∙ sym (back due acting (omega (arith, e))))
+pub lateness_is : (due acting : ℕ) → due < turn → to_z w32 ((acting + (turn - due)) % turn) ≡ lateness_of due acting
+lateness_is due acting short = ap (to_z w32) (is_distance due acting short) ∙ as_read due acting
 
 -- ---- counted from the earliest
 

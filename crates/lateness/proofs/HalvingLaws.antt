@@ -9,7 +9,7 @@ use Rattle.lateness.proofs.ClockLaws.{above_late, late_above, above_short, above
 use Rattle.lateness.proofs.OrderLaws.{le_of, lt_of}
 use Rattle.lateness.proofs.NumberLaws.{number_at, numbers_ascend}
 use Rattle.lateness.proofs.PairLaws.{Within, number_within}
-use Rattle.lateness.proofs.SignedLaws.{back}
+use Rattle.std.proofs.Math.Facts.{to_z-of_z}
 
 pub record Halving (k : ℕ) (xs : List ℤ) (low high : ℕ) : Type 0 where
   pub behind : low ≤ above_of (numbered k xs)
@@ -24,15 +24,15 @@ module _ {k : ℕ} {earliest latest : ℤ} {xs : List ℤ} (within : Within xs) 
       le_of (above_of y) (above_of z) (sym (above_order y z (number_within i xs within) (number_within j xs within)) ∙ numbers_ascend xs i j l m h)
 
   pub first_small : SFits w64 earliest → mag (to_z w64 (of_z w64 earliest)) < half
-  first_small f = rw (back f, number.first) (number_within 1 xs within)
+  first_small f = rw (to_z-of_z f, number.first) (number_within 1 xs within)
 
   pub last_small : SFits w64 latest → mag (to_z w64 (of_z w64 latest)) < half
-  last_small f = rw (back f, number.last) (number_within (length xs) xs within)
+  last_small f = rw (to_z-of_z f, number.last) (number_within (length xs) xs within)
 
   pub halving_starts : {low high : ℕ} → SFits w64 earliest → SFits w64 latest → low ≡ above_of (to_z w64 (of_z w64 earliest)) → high ≡ above_of (to_z w64 (of_z w64 latest)) → Halving k xs low high
   halving_starts fe fl l h =
-      let lows = l ∙ ap above_of (back fe ∙ number.first) in
-      let highs = h ∙ ap above_of (back fl ∙ number.last) in
+      let lows = l ∙ ap above_of (to_z-of_z fe ∙ number.first) in
+      let highs = h ∙ ap above_of (to_z-of_z fl ∙ number.last) in
       record {
         behind = omega (arith, lows, in_order 1 k (omega arith) number.low number.high);
         before = omega (arith, highs, in_order k (length xs) number.low number.high (omega arith));
@@ -45,7 +45,7 @@ module _ {k : ℕ} {earliest latest : ℤ} {xs : List ℤ} (within : Within xs) 
     tested =
         let z = numbered k xs in
         let short : middle < turn = omega (arith, so_far.inside) in
-        ap (leb k) (count ∙ ap (λ v. at_most v xs) (back fits ∙ late)) ∙ sym (number_at (late_at middle) xs k number.low number.high)
+        ap (leb k) (count ∙ ap (λ v. at_most v xs) (to_z-of_z fits ∙ late)) ∙ sym (number_at (late_at middle) xs k number.low number.high)
         ∙ above_order z (late_at middle) (number_within k xs within) (late_in_clock middle short) ∙ ap (leb (above_of z)) (above_late middle)
 
     pub goes_up : n < k → {next : ℕ} → next ≡ middle + 1 → Halving k xs next high

@@ -1,6 +1,7 @@
 -- A door's pairs, from a place on.
-use Rattle.std.proofs.Common.{◌≡◌, ℕ, zero, suc, ◌-◌, ◌*◌, ◌<◌, ◌≤◌, Bool, true, false, cond, eqb, ◌≢◌, List, [], ◌∷◌, length, get_or, drop, ℤ, pos, negsuc, sym, refl, ap, ◌∙◌, arith, length-drop, drop-cons}
-use lib.Seq.{drop-length}
+use Rattle.std.proofs.Common.{◌≡◌, ℕ, zero, suc, ◌-◌, ◌*◌, ◌<◌, ◌≤◌, Bool, true, false, cond, ◌≢◌, List, [], ◌∷◌, length, get_or, drop, ℤ, pos, negsuc, sym, refl, ap, ◌∙◌, arith, length-drop, drop-cons}
+use Rattle.std.proofs.Math.Seq.{drop-length}
+use borrow.Author.Tests.{eq-eqb, ne_eqb}
 use lib.Signed.{mag, le_z}
 use Rattle.rules.proofs.Sizes.{by_eqb}
 use Rattle.lateness.specs.Clock.{half, lateness_of}
@@ -12,46 +13,34 @@ use Rattle.lateness.proofs.ClockLaws.{in_clock, mag_sum}
 abbrev pub from : ℕ → ℕ → List ℕ → List ℕ → List ℕ → List ℤ
 from door i due acting doors = of_door door (pairs_of (drop i due) (drop i acting) (drop i doors))
 
+yes_door : (door d a b : ℕ) (due acting doors : List ℕ) → b ≡ door → of_door door (pairs_of (d ∷ due) (a ∷ acting) (b ∷ doors)) ≡ lateness_of d a ∷ of_door door (pairs_of due acting doors)
+unfolding of_door pairs_of
+yes_door door d a b due acting doors e = rw (eq-eqb b door e, of_door, pairs_of) refl
+
+no_door : (door d a b : ℕ) (due acting doors : List ℕ) → b ≢ door → of_door door (pairs_of (d ∷ due) (a ∷ acting) (b ∷ doors)) ≡ of_door door (pairs_of due acting doors)
+unfolding of_door pairs_of
+no_door door d a b due acting doors e = rw (ne_eqb b door e, of_door, pairs_of) refl
+
 no_doors : (due acting : List ℕ) → pairs_of due acting [] ≡ []
 unfolding pairs_of
 no_doors [] acting = refl
 no_doors (d ∷ due) [] = refl
 no_doors (d ∷ due) (a ∷ acting) = refl
 
-same_byte : (b door : ℕ) → b ≡ door → eqb b door ≡ true
-same_byte b door e = by_eqb b door (λ t. t ≡ true) (λ p. refl) (λ n. absurd (n e))
-
-other_byte : (b door : ℕ) → b ≢ door → eqb b door ≡ false
-other_byte b door n = by_eqb b door (λ t. t ≡ false) (λ p. absurd (n p)) (λ m. refl)
-
-yes_door : (door d a b : ℕ) (due acting doors : List ℕ) → b ≡ door → of_door door (pairs_of (d ∷ due) (a ∷ acting) (b ∷ doors)) ≡ lateness_of d a ∷ of_door door (pairs_of due acting doors)
-unfolding of_door pairs_of
-yes_door door d a b due acting doors e = rw (same_byte b door e, of_door, pairs_of) refl
-
-no_door : (door d a b : ℕ) (due acting doors : List ℕ) → b ≢ door → of_door door (pairs_of (d ∷ due) (a ∷ acting) (b ∷ doors)) ≡ of_door door (pairs_of due acting doors)
-unfolding of_door pairs_of
-no_door door d a b due acting doors e = rw (other_byte b door e, of_door, pairs_of) refl
-
 module _ {due acting doors : List ℕ} (lent : Lent due acting doors) (door : ℕ) where
-  pub from_end : (i : ℕ) → i ≡ length doors → from door i due acting doors ≡ []
+  from_end : from door (length doors) due acting doors ≡ []
   unfolding of_door
-  from_end i e = ap (of_door door) (ap (λ n. pairs_of (drop i due) (drop i acting) (drop n doors)) e ∙ ap (pairs_of (drop i due) (drop i acting)) (drop-length doors) ∙ no_doors (drop i due) (drop i acting))
+  from_end = ap (of_door door) (ap (pairs_of (drop (length doors) due) (drop (length doors) acting)) (drop-length doors) ∙ no_doors (drop (length doors) due) (drop (length doors) acting))
 
   taken_apart : (i : ℕ) → i < length doors → from door i due acting doors
       ≡ of_door door (pairs_of (get_or due i 0 ∷ drop (suc i) due) (get_or acting i 0 ∷ drop (suc i) acting) (get_or doors i 0 ∷ drop (suc i) doors))
   taken_apart i h = rw (drop-cons due i 0 (omega (arith, lent.dues)), drop-cons acting i 0 (omega (arith, lent.actings)), drop-cons doors i 0 h) refl
 
-  -- place i is a number of its own, so that a wrong one is refused by its value
-  pub from_yes : (i next : ℕ) → suc i ≡ next → i < length doors → get_or doors i 0 ≡ door
-      → from door i due acting doors ≡ lateness_of (get_or due i 0) (get_or acting i 0) ∷ from door next due acting doors
-  from_yes i next s h e =
-      taken_apart i h ∙ yes_door door (get_or due i 0) (get_or acting i 0) (get_or doors i 0) (drop (suc i) due) (drop (suc i) acting) (drop (suc i) doors) e
-      ∙ ap (λ n. lateness_of (get_or due i 0) (get_or acting i 0) ∷ from door n due acting doors) s
+  from_yes : (i : ℕ) → i < length doors → get_or doors i 0 ≡ door → from door i due acting doors ≡ lateness_of (get_or due i 0) (get_or acting i 0) ∷ from door (suc i) due acting doors
+  from_yes i h e = taken_apart i h ∙ yes_door door (get_or due i 0) (get_or acting i 0) (get_or doors i 0) (drop (suc i) due) (drop (suc i) acting) (drop (suc i) doors) e
 
-  pub from_no : (i next : ℕ) → suc i ≡ next → i < length doors → get_or doors i 0 ≢ door → from door i due acting doors ≡ from door next due acting doors
-  from_no i next s h e =
-      taken_apart i h ∙ no_door door (get_or due i 0) (get_or acting i 0) (get_or doors i 0) (drop (suc i) due) (drop (suc i) acting) (drop (suc i) doors) e
-      ∙ ap (λ n. from door n due acting doors) s
+  from_no : (i : ℕ) → i < length doors → get_or doors i 0 ≢ door → from door i due acting doors ≡ from door (suc i) due acting doors
+  from_no i h e = taken_apart i h ∙ no_door door (get_or due i 0) (get_or acting i 0) (get_or doors i 0) (drop (suc i) due) (drop (suc i) acting) (drop (suc i) doors) e
 
 -- ---- a pass from the last pair to the first: what is told of those behind a place
 
@@ -60,21 +49,25 @@ pub record Passed {A : Type 0} (f : List ℤ → A) (door : ℕ) (due acting doo
   pub told : x ≡ f (from door i due acting doors)
 
 module _ {A : Type 0} (f : List ℤ → A) {door : ℕ} {due acting doors : List ℕ} (lent : Lent due acting doors) where
-  pub passed_none : {i : ℕ} {x : A} → i ≡ length doors → x ≡ f [] → Passed f door due acting doors i x
-  passed_none e t = record { inside = omega arith; told = t ∙ ap f (sym (from_end lent door _ e)) }
+  pub passed_none : {x : A} → x ≡ f [] → Passed f door due acting doors (length doors) x
+  passed_none t = record { inside = omega arith; told = t ∙ ap f (sym (from_end lent door)) }
 
-  module _ {i next : ℕ} {x : A} (passed : Passed f door due acting doors i x) (some : 0 < i) (e : next ≡ i - 1) where
-    same : suc next ≡ i
+  module _ {i : ℕ} {x : A} (passed : Passed f door due acting doors i x) (some : 0 < i) where
+    same : suc (i - 1) ≡ i
     same = omega arith
 
-    pub passed_yes : {y : A} → get_or doors next 0 ≡ door → y ≡ f (lateness_of (get_or due next 0) (get_or acting next 0) ∷ from door i due acting doors) → Passed f door due acting doors next y
-    passed_yes d t = record { inside = omega (arith, passed.inside); told = t ∙ ap f (sym (from_yes lent door next i same (omega (arith, passed.inside)) d)) }
+    pub passed_yes : {y : A} → get_or doors (i - 1) 0 ≡ door → y ≡ f (lateness_of (get_or due (i - 1) 0) (get_or acting (i - 1) 0) ∷ from door i due acting doors) → Passed f door due acting doors (i - 1) y
+    passed_yes d t =
+        let here = from_yes lent door (i - 1) (omega (arith, passed.inside)) d ∙ ap (λ n. lateness_of (get_or due (i - 1) 0) (get_or acting (i - 1) 0) ∷ from door n due acting doors) same in
+        record { inside = omega (arith, passed.inside); told = t ∙ ap f (sym here) }
 
-    pub passed_no : get_or doors next 0 ≢ door → Passed f door due acting doors next x
-    passed_no d = record { inside = omega (arith, passed.inside); told = passed.told ∙ ap f (sym (from_no lent door next i same (omega (arith, passed.inside)) d)) }
+    pub passed_no : get_or doors (i - 1) 0 ≢ door → Passed f door due acting doors (i - 1) x
+    passed_no d =
+        let here = from_no lent door (i - 1) (omega (arith, passed.inside)) d ∙ ap (λ n. from door n due acting doors) same in
+        record { inside = omega (arith, passed.inside); told = passed.told ∙ ap f (sym here) }
 
-  pub passed_all : {i : ℕ} {x : A} → Passed f door due acting doors i x → i ≤ 0 → x ≡ f (of_door door (pairs_of due acting doors))
-  passed_all {i} passed h = let start : i ≡ 0 = omega arith in passed.told ∙ ap (λ n. f (from door n due acting doors)) start
+  pub passed_all : {pairs : List Pair} {i : ℕ} {x : A} → pairs_of due acting doors ≡ pairs → Passed f door due acting doors i x → i ≤ 0 → x ≡ f (of_door door pairs)
+  passed_all {pairs} {i} e passed h = let start : i ≡ 0 = omega arith in passed.told ∙ ap (λ n. f (from door n due acting doors)) start ∙ ap (λ ps. f (of_door door ps)) e
 
 -- ---- how many there are, and how much they can come to
 
@@ -88,11 +81,14 @@ doors_length door (d ∷ due) (a ∷ acting) (b ∷ doors) =
     (λ p. omega (arith, doors_length door due acting doors))
     (λ n. omega (arith, doors_length door due acting doors))
 
-pub from_few : (door i : ℕ) (due acting doors : List ℕ) → length (from door i due acting doors) ≤ length doors - i
-from_few door i due acting doors = omega (arith, doors_length door (drop i due) (drop i acting) (drop i doors), length-drop i doors)
+pub from_few : (door i : ℕ) {due acting doors : List ℕ} → Lent due acting doors → length (from door i due acting doors) ≤ 4096
+from_few door i {due} {acting} {doors} lent = omega (arith, doors_length door (drop i due) (drop i acting) (drop i doors), length-drop i doors, lent.few)
+
+pub door_few : (door : ℕ) {pairs : List Pair} {due acting doors : List ℕ} → Lent due acting doors → pairs_of due acting doors ≡ pairs → length (of_door door pairs) ≤ 4096
+door_few door {pairs} {due} {acting} {doors} lent e = omega (arith, ap (λ ps. length (of_door door ps)) e, doors_length door due acting doors, lent.few)
 
 -- within half the clock, each of them
-pub Within : List ℤ → Type 0
+unfoldable pub Within : List ℤ → Type 0
 Within [] = Unit {0}
 Within (x ∷ xs) = (mag x < half) × Within xs
 

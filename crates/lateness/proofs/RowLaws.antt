@@ -1,19 +1,28 @@
 -- One pair more, and what it changes in a row.
-use Rattle.std.proofs.Common.{◌≡◌, ℕ, zero, suc, ◌+◌, ◌<◌, ◌≤◌, cond, leb, ◌≢◌, List, [], ◌∷◌, length, drop, ℤ, pos, negsuc, ◌+ℤ◌, sym, refl, ap, ◌∙◌, subst, ⊎_elim, arith}
+use Rattle.std.proofs.Common.{◌≡◌, ℕ, zero, suc, ◌+◌, ◌≤◌, cond, leb, ◌≢◌, List, [], ◌∷◌, length, drop, ℤ, pos, negsuc, ◌+ℤ◌, sym, refl, ap, ◌∙◌, subst, ⊎_elim, arith}
 use lib.Dec.{leb-suc-suc}
 use lib.IntN.{+ℤ_idr}
-use lib.Signed.{le_z, mag}
+use lib.Signed.{le_z}
+use Rattle.std.specs.Int.{int_min, int_max}
+use Rattle.std.proofs.lemmas.Int.{ints}
 use Rattle.rules.proofs.Sizes.{leb-false}
 use Rattle.rules.proofs.Capacity.{leb-true}
 use Rattle.lateness.specs.Ordered.{put_in, in_order, numbered, at_most}
-use Rattle.lateness.specs.Clock.{half}
-use Rattle.lateness.specs.Pairs.{Lent, pairs_of}
+use Rattle.lateness.specs.Pairs.{pairs_of, Lent}
 use Rattle.lateness.specs.Reports.{sum_of, hits, seen_of, Few}
 use Rattle.lateness.specs.declared.Seen.{Seen}
 use Rattle.lateness.proofs.ClockLaws.{under_or_not}
 use Rattle.lateness.proofs.OrderLaws.{clash, by_test, other_way, le_through, same_above}
-use Rattle.lateness.proofs.PairLaws.{from, from_few, door_within, sum_small, hits_few, number_within, Passed}
+use Rattle.lateness.proofs.PairLaws.{from, from_few, Within, door_within, sum_small, hits_few, number_within, Passed}
 use Rattle.lateness.proofs.NumberLaws.{step_yes, step_no, number_at, at_most_all}
+
+-- ---- the smaller and the larger of two
+
+pub smaller : (x y : ℤ) → int_min x y ≡ cond (le_z x y) x y
+smaller x y = grind (arith, ints)
+
+pub larger : (x y : ℤ) → int_max x y ≡ cond (le_z x y) y x
+larger x y = grind (arith, ints)
 
 -- ---- one alone
 
@@ -76,17 +85,22 @@ none (x ∷ xs) e = absurd (omega arith)
 
 -- ---- what one pass tells
 
+pub seen_none : {seen : Seen} → seen.count ≡ 0 → seen.earliest ≡ pos 0 → seen.latest ≡ pos 0 → seen.sum ≡ pos 0 → seen.exact ≡ 0 → seen ≡ seen_of []
+unfolding numbered in_order sum_of hits
+seen_none n e l s h = λ i. record { count = n i; earliest = e i; latest = l i; sum = s i; exact = h i }
+
 module _ (x : ℤ) (xs : List ℤ) (seen : Seen) (told : seen ≡ seen_of xs) where
-  pub seen_first : seen.count ≡ 0 → (l : ℤ) (h : ℕ) → l ≡ x → h ≡ hits (x ∷ []) → record { count = 1; earliest = l; latest = l; sum = l; exact = h } ≡ seen_of (x ∷ xs)
+  pub seen_first : seen.count ≡ 0 → (l : ℤ) (h : ℕ) → l ≡ x → h ≡ hits (x ∷ []) + seen.exact → record { count = 1; earliest = l; latest = l; sum = l; exact = h } ≡ seen_of (x ∷ xs)
   unfolding sum_of
   seen_first z l h e f =
       let nothing = none xs (sym (ap (λ s. s.count) told) ∙ z) in
+      let exact = f ∙ ap (λ s. hits (x ∷ []) + s.exact) told ∙ sym (hits_one x xs) ∙ ap (λ ys. hits (x ∷ ys)) nothing in
       let one : record { count = 1; earliest = l; latest = l; sum = l; exact = h } ≡ seen_of (x ∷ []) = λ i. record {
         count = 1;
         earliest = (e ∙ sym (alone x)) i;
         latest = (e ∙ sym (alone x)) i;
         sum = (e ∙ sym (+ℤ_idr x)) i;
-        exact = f i;
+        exact = exact i;
       } in
       one ∙ ap (λ ys. seen_of (x ∷ ys)) (sym nothing)
 
@@ -105,20 +119,15 @@ module _ (x : ℤ) (xs : List ℤ) (seen : Seen) (told : seen ≡ seen_of xs) wh
 
 -- ---- so few pairs
 
-module _ {door i : ℕ} {due acting doors : List ℕ} (lent : Lent due acting doors) {seen : Seen} (passed : Passed seen_of door due acting doors i seen) where
-  rest : List ℤ
-  rest = from door i due acting doors
+pub few_seen : (xs : List ℤ) → Within xs → length xs ≤ 4096 → Few (seen_of xs)
+few_seen xs within few = record {
+  counts = few;
+  exacts = omega (arith, hits_few xs);
+  first = number_within 1 xs within;
+  last = number_within (length xs) xs within;
+  total = omega (arith, sum_small xs within);
+}
 
-  pub seen_few : Few seen
-  unfolding rest
-  seen_few =
-      let told = passed.told in
-      let within = door_within door (pairs_of (drop i due) (drop i acting) (drop i doors)) in
-      let few : length rest ≤ 4096 = omega (arith, from_few door i due acting doors, lent.few) in
-      record {
-        counts = omega (arith, ap (λ s. s.count) told);
-        exacts = omega (arith, ap (λ s. s.exact) told, hits_few rest);
-        first = subst (λ s. mag s.earliest < half) (sym told) (number_within 1 rest within);
-        last = subst (λ s. mag s.latest < half) (sym told) (number_within (length rest) rest within);
-        total = omega (arith, ap (λ s. mag s.sum) told, sum_small rest within);
-      }
+pub passed_few : {door i : ℕ} {due acting doors : List ℕ} {seen : Seen} → Lent due acting doors → Passed seen_of door due acting doors i seen → Few seen
+passed_few {door} {i} {due} {acting} {doors} lent passed =
+    subst Few (sym passed.told) (few_seen (from door i due acting doors) (door_within door (pairs_of (drop i due) (drop i acting) (drop i doors))) (from_few door i lent))

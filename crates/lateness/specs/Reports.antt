@@ -5,7 +5,6 @@ use Rattle.lateness.specs.Clock.{half}
 use Rattle.lateness.specs.Ordered.{numbered}
 use Rattle.lateness.specs.Pairs.{Pair, pairs_of, of_door}
 use Rattle.lateness.specs.declared.Row.{Row}
-use Rattle.lateness.specs.declared.Report.{Report}
 use Rattle.lateness.specs.declared.Seen.{Seen}
 
 unfoldable pub sum_of : List ℤ → ℤ
@@ -50,10 +49,17 @@ unfoldable pub answer_of : List ℕ → List ℕ → List ℕ → ℕ
 answer_of due acting doors =
     cond (length due == length doors && length acting == length doors) (cond (nat_lt 4096 (length doors)) 15 (cond (nat_lt (first_above doors) (length doors)) 7 0)) 10
 
+-- the answer's number and the rows of the door bytes
+pub record Answered : Type 0 where
+  pub answer : ℕ
+  pub both : Row
+  pub left : Row
+  pub right : Row
+
 -- a refusal gives zeros
-abbrev pub report_from : ℕ → List Pair → Report
+abbrev pub report_from : ℕ → List Pair → Answered
 report_from zero pairs = record { answer = 0; both = row_of (of_door 0 pairs); left = row_of (of_door 1 pairs); right = row_of (of_door 2 pairs) }
 report_from (suc n) pairs = record { answer = suc n; both = row_of []; left = row_of []; right = row_of [] }
 
-abbrev pub report_of : List ℕ → List ℕ → List ℕ → Report
+abbrev pub report_of : List ℕ → List ℕ → List ℕ → Answered
 report_of due acting doors = report_from (answer_of due acting doors) (pairs_of due acting doors)

@@ -51,9 +51,6 @@ pub record Hearing (piece : List ℕ) (s₀ : State) (k₀ : List ℕ) (s : Stat
   pub keeps : kept_after k (drop i piece) ≡ kept_after k₀ piece
 
 module _ (piece : List ℕ) where
-  pub hearing_starts : (s : State) (k : List ℕ) → Hearing piece s k s k 0
-  hearing_starts s k = record { inside = omega arith; state = refl; keeps = refl }
-
   module _ {s₀ : State} {k₀ : List ℕ} (s : State) (k : List ℕ) (i : ℕ) (h : Hearing piece s₀ k₀ s k i) where
     pub hears_on : {s' : State} {k' : List ℕ} (b : ℕ) → i < length piece → b ≡ get_or piece i 0 → s' ≡ lines_after s (reads_by k b) → k' ≡ (feed_of k b).keeps → Hearing piece s₀ k₀ s' k' (i + 1)
     unfolding reads_from kept_after

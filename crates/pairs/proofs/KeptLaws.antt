@@ -1,20 +1,22 @@
 -- What is kept stays true with every line more.
 use mathlib.Core.Path.{◌≡◌, refl, ap, sym, ◌∙◌, subst}
 use mathlib.Core.List.{List, [], ◌∷◌, ◌++◌, map, append_assoc, append-nil, map-append}
-use Prim.Native.Nat.{ℕ, zero, suc, ◌+◌, ◌<◌, ◌≤◌}
+use Prim.Native.Nat.{ℕ, suc, ◌+◌, ◌<◌, ◌≤◌}
 use native.Mathlib.Decide.{dec_lt}
 use native.Mathlib.Omega.{arith}
 use native.Mathlib.Nat.{add-zero}
 use native.Mathlib.Numerals.{add-one}
 use lib.ListN.{length, take, length-set, length-take, length-append}
 use lib.Seq.{take_all, take-append-le, take-suc-set, length-take-le}
+use Rattle.std.specs.Option.{option_or}
+use Rattle.std.specs.Prelude.{Option, None, Some}
 use Rattle.frames.specs.Answers.{Back, done, refused}
 use Rattle.lateness.specs.Pairs.{Pair, pairs_of}
 use Rattle.pairs.specs.Reads.{pair_of}
-use Rattle.pairs.specs.State.{State, Room, first_of, one_more, lines_after}
+use Rattle.pairs.specs.State.{State, Room, one_more, lines_after}
 use Rattle.pairs.specs.Kept.{wrong_at, wrong_from, first_wrong, first_pairs, Kept}
 use Rattle.pairs.proofs.ReadLaws.{by_pair}
-use Rattle.pairs.proofs.StateLaws.{first_some, more_over, more_pair, more_none}
+use Rattle.pairs.proofs.StateLaws.{more_over, more_pair, more_none}
 
 -- the first wrong line
 
@@ -23,23 +25,22 @@ unfolding wrong_from wrong_at
 wrong_done n [] p = refl
 wrong_done n (r ∷ reads) p = ap (wrong_at n r.values) (wrong_done (n + 1) reads p)
 
-first_at : (n m : ℕ) (vs : List Pair) (rest more : ℕ) → 0 < n → more ≡ first_of rest m → wrong_at n vs more ≡ first_of (wrong_at n vs rest) m
+first_at : (n m : ℕ) (vs : List Pair) (rest more : Option ℕ) → more ≡ option_or rest (Some m) → wrong_at n vs more ≡ option_or (wrong_at n vs rest) (Some m)
 unfolding wrong_at
-first_at n m [] rest more h e = first_some n m (λ z. omega arith)
-first_at n m (p ∷ ps) rest more h e = e
+first_at n m [] rest more e = refl
+first_at n m (p ∷ ps) rest more e = e
 
-wrong_none : (n : ℕ) (reads : List (Back Pair)) → 0 < n → wrong_from n (reads ++ (refused ∷ [])) ≡ first_of (wrong_from n reads) (n + length reads)
-unfolding wrong_from wrong_at first_of
-wrong_none n [] h = sym (add-zero n)
-wrong_none n (r ∷ reads) h =
+wrong_none : (n : ℕ) (reads : List (Back Pair)) → wrong_from n (reads ++ (refused ∷ [])) ≡ option_or (wrong_from n reads) (Some (n + length reads))
+unfolding wrong_from wrong_at
+wrong_none n [] = ap Some (sym (add-zero n))
+wrong_none n (r ∷ reads) =
     let further : n + 1 + length reads ≡ n + suc (length reads) = omega arith in
-    first_at n (n + suc (length reads)) r.values (wrong_from (n + 1) reads) (wrong_from (n + 1) (reads ++ (refused ∷ []))) h
-    (wrong_none (n + 1) reads (omega arith) ∙ ap (first_of (wrong_from (n + 1) reads)) further)
+    first_at n (n + suc (length reads)) r.values (wrong_from (n + 1) reads) (wrong_from (n + 1) (reads ++ (refused ∷ [])))
+    (wrong_none (n + 1) reads ∙ ap (λ (m : ℕ). option_or (wrong_from (n + 1) reads) (Some m)) further)
 
-first_told : (so_far line : ℕ) → 0 < line → first_of so_far line ≡ 0 → ⊥
-unfolding first_of
-first_told zero line h e = omega arith
-first_told (suc m) line h e = omega arith
+first_told : (so_far : Option ℕ) (line : ℕ) → option_or so_far (Some line) ≡ None → ⊥
+first_told None line e = cc
+first_told (Some n) line e = cc
 
 -- the pairs
 
@@ -54,7 +55,7 @@ pairs_append (x ∷ xs) (y ∷ ys) [] d a b e f = absurd (omega arith)
 pairs_append (x ∷ xs) (y ∷ ys) (z ∷ zs) d a b e f = ap (λ (ps : List Pair). record { due = x; acting = y; door = z } ∷ ps) (pairs_append xs ys zs d a b (omega arith) (omega arith))
 
 -- the beginning
-pub begins : (s : State) → s.lines ≡ 0 → s.wrong ≡ 0 → Room s.due s.acting s.doors → Kept [] s
+pub begins : (s : State) → s.lines ≡ 0 → s.wrong ≡ None → Room s.due s.acting s.doors → Kept [] s
 unfolding wrong_from pairs_of
 begins s e f room = record { counted = e; first = f; pairs = λ w. refl; room = room }
 
@@ -122,12 +123,12 @@ module _ (reads : List (Back Pair)) (s : State) (kept : Kept reads s) where
     tells =
         let n = s.lines in
         let number : 1 + length reads ≡ n + 1 = omega (arith, many h) in
-        subst (Kept (reads ++ (refused ∷ []))) (more_none s refused refl h refl refl refl refl) record {
+        subst (Kept (reads ++ (refused ∷ []))) (more_none s refused refl h refl refl) record {
           counted = counts refused;
           first =
-              ap (λ (w : ℕ). first_of w (n + 1)) (kept.first ∙ ap first_wrong all) ∙ ap (first_of (first_wrong reads)) (sym number)
-              ∙ sym (ap first_wrong (all_more refused) ∙ wrong_none 1 reads (omega arith));
-          pairs = λ w. absurd (first_told s.wrong (n + 1) (omega arith) w);
+              ap (λ (w : Option ℕ). option_or w (Some (n + 1))) (kept.first ∙ ap first_wrong all) ∙ ap (λ (m : ℕ). option_or (first_wrong reads) (Some m)) (sym number)
+              ∙ sym (ap first_wrong (all_more refused) ∙ wrong_none 1 reads);
+          pairs = λ w. absurd (first_told s.wrong (n + 1) w);
           room = kept.room;
         }
 

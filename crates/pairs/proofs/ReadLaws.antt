@@ -6,14 +6,13 @@ use Prim.Native.Nat.{ℕ, ◌+◌, ◌<◌, ◌≤◌, ◌^◌}
 use native.Mathlib.Decide.{dec_lt}
 use native.Mathlib.Omega.{arith}
 use lib.Dec.{eqb}
-use lib.ListN.{length, take, drop, length-drop, length-take, take-append-drop}
+use lib.ListN.{length, take, drop, length-drop, take-append-drop}
 use lib.Seq.{take_all, length-take-le}
 use borrow.Author.Tests.{eq-eqb, ne_eqb}
 use Rattle.frames.specs.Answers.{Back, done, refused}
 use Rattle.frames.specs.Digits.{capital, number, Field}
 use Rattle.frames.proofs.DigitLaws.{both_left, both_right, capital_append, number_below}
-use Rattle.lines.specs.Cutter.{decisive, kept}
-use Rattle.lines.specs.declared.Cutter.{Cutter}
+use Rattle.lines.specs.Cutter.{decisive}
 use Rattle.lateness.specs.Pairs.{Pair}
 use Rattle.pairs.specs.Reads.{written, pair_of}
 
@@ -68,11 +67,3 @@ pair_decisive l =
       | yes h ↦ ap pair_of (take_all 19 l (omega arith))
       | no g ↦ sym (pair_other (take 19 l) (λ e. omega (arith, length-take-le 19 l (omega arith)))) ∙ pair_other l (λ e. omega arith)
     ]
-
--- the code's cutters
-
-pub pair_kept : (c : Cutter) {r : Back Pair} → c.len ≡ 18 → r ≡ pair_of (take 18 c.bytes) → r ≡ pair_of (kept c)
-pair_kept c h e = e ∙ ap (λ (n : ℕ). pair_of (take n c.bytes)) (sym h)
-
-pub none_kept : (c : Cutter) → length c.bytes ≡ 19 → (c.len ≡ 18 → ⊥) → refused ≡ pair_of (kept c)
-none_kept c long h = pair_other (kept c) (λ e. h (omega (arith, length-take c.len c.bytes)))

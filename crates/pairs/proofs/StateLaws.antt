@@ -2,27 +2,19 @@
 use mathlib.Core.Path.{◌≡◌, refl, ap, ◌∙◌}
 use mathlib.Core.Bool.{Bool, true, false, cond}
 use mathlib.Core.List.{List, [], ◌∷◌, ◌++◌}
-use Prim.Native.Nat.{ℕ, zero, suc, ◌+◌, ◌<◌, ◌≤◌}
+use Prim.Native.Nat.{ℕ, ◌+◌, ◌<◌, ◌≤◌}
 use native.Mathlib.Omega.{arith}
 use lib.Dec.{ltb}
 use lib.ListN.{set, length-set}
 use borrow.Author.Tests.{lt-ltb, le-ltb}
+use Rattle.std.specs.Option.{option_or}
+use Rattle.std.specs.Prelude.{Option, Some}
 use Rattle.frames.specs.Answers.{Back, done, refused}
 use Rattle.lateness.specs.Pairs.{Pair}
-use Rattle.pairs.specs.State.{State, Room, first_of, placed, too_many, one_more, lines_after}
-
-pub first_none : (so_far line : ℕ) → so_far ≡ 0 → line ≡ first_of so_far line
-unfolding first_of
-first_none zero line e = refl
-first_none (suc m) line e = absurd (omega arith)
-
-pub first_some : (so_far line : ℕ) → (so_far ≡ 0 → ⊥) → so_far ≡ first_of so_far line
-unfolding first_of
-first_some zero line h = absurd (h refl)
-first_some (suc m) line h = refl
+use Rattle.pairs.specs.State.{State, Room, placed, too_many, one_more, lines_after}
 
 module _ (s : State) (read : Back Pair) where
-  pub more_over : {n w : ℕ} → 4096 ≤ s.lines → n ≡ 4097 → w ≡ s.wrong → record { due = s.due; acting = s.acting; doors = s.doors; lines = n; wrong = w } ≡ one_more s read
+  pub more_over : {n : ℕ} {w : Option ℕ} → 4096 ≤ s.lines → n ≡ 4097 → w ≡ s.wrong → record { due = s.due; acting = s.acting; doors = s.doors; lines = n; wrong = w } ≡ one_more s read
   unfolding one_more
   more_over h e f = rw (e, f, le-ltb s.lines 4096 h) refl
 
@@ -30,15 +22,15 @@ module _ (s : State) (read : Back Pair) where
   unfolding one_more
   more_placed h = rw (lt-ltb s.lines 4096 h) refl
 
-  pub more_pair : {d a b at n w : ℕ} → done (record { due = d; acting = a; door = b }) ≡ read → at ≡ s.lines → at < 4096 → n ≡ at + 1 → w ≡ s.wrong
+  pub more_pair : {d a b at n : ℕ} {w : Option ℕ} → done (record { due = d; acting = a; door = b }) ≡ read → at ≡ s.lines → at < 4096 → n ≡ at + 1 → w ≡ s.wrong
       → record { due = set s.due at d; acting = set s.acting at a; doors = set s.doors at b; lines = n; wrong = w } ≡ one_more s read
   unfolding placed
   more_pair e p h g f = rw (g, f, p) (ap (λ (r : Back Pair). placed s r.values) e ∙ more_placed (omega arith))
 
-  pub more_none : {n m w w₀ : ℕ} → refused ≡ read → s.lines < 4096 → n ≡ s.lines + 1 → m ≡ s.lines + 1 → w₀ ≡ s.wrong → w ≡ first_of w₀ m
+  pub more_none : {n : ℕ} {w : Option ℕ} → refused ≡ read → s.lines < 4096 → n ≡ s.lines + 1 → w ≡ option_or s.wrong (Some n)
       → record { due = s.due; acting = s.acting; doors = s.doors; lines = n; wrong = w } ≡ one_more s read
   unfolding placed
-  more_none e h g i j f = rw (g, f, i, j) (ap (λ (r : Back Pair). placed s r.values) e ∙ more_placed h)
+  more_none e h g f = rw (g, f, g) (ap (λ (r : Back Pair). placed s r.values) e ∙ more_placed h)
 
 pub lines_append : (s : State) (xs ys : List (Back Pair)) → lines_after s (xs ++ ys) ≡ lines_after (lines_after s xs) ys
 unfolding lines_after

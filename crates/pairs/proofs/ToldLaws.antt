@@ -5,6 +5,7 @@ use Prim.Native.Nat.{ℕ, suc, ◌+◌, ◌<◌, ◌≤◌}
 use native.Mathlib.Omega.{arith}
 use lib.ListN.{length, take, length-take, length-map}
 use lib.Seq.{take_all}
+use Rattle.std.specs.Prelude.{None, Some}
 use Rattle.frames.specs.Answers.{Back, done, refused}
 use Rattle.frames.proofs.AnswerLaws.{done_same}
 use Rattle.lines.specs.Lines.{lines_of}
@@ -38,7 +39,7 @@ module _ {reads : List (Back Pair)} {s : State} (kept : Kept reads s) where
     all : take 4096 reads ≡ reads
     all = take_all 4096 reads (omega (arith, told_count))
 
-    pub told_pairs : s.wrong ≡ 0 → reads ≡ map done (first_pairs s.lines s)
+    pub told_pairs : s.wrong ≡ None → reads ≡ map done (first_pairs s.lines s)
     told_pairs w =
         let n : length (take 4096 reads) ≡ s.lines = ap length all ∙ sym told_count in
         sym (ap (λ (m : ℕ). map done (first_pairs m s)) (sym n) ∙ kept.pairs w ∙ all)
@@ -68,16 +69,19 @@ found_later {n} {m} {reads} p f = record {
   };
 }
 
-found : (n m : ℕ) (lines : List (List ℕ)) → 0 < m → wrong_from n (map pair_of lines) ≡ m → Found n m (map pair_of lines)
+found : (n m : ℕ) (lines : List (List ℕ)) → wrong_from n (map pair_of lines) ≡ Some m → Found n m (map pair_of lines)
 unfolding wrong_from wrong_at
-found n m [] h e = absurd (omega arith)
-found n m (line ∷ lines) h e =
-    by_pair (λ (r : Back Pair). wrong_from n (r ∷ map pair_of lines) ≡ m → Found n m (r ∷ map pair_of lines)) line
-    (λ p g. found_later p (found (n + 1) m lines h g)) found_here e
+found n m [] e = cc
+found n m (line ∷ lines) e =
+    by_pair (λ (r : Back Pair). wrong_from n (r ∷ map pair_of lines) ≡ Some m → Found n m (r ∷ map pair_of lines)) line
+    (λ p g. found_later p (found (n + 1) m lines g)) (λ g. found_here (number g)) e
+  where
+    number : Some n ≡ Some m → n ≡ m
+    number g = cc
 
-pub told_wrong : (bytes : List ℕ) {s : State} → Kept (reads_of bytes) s → s.lines ≤ 4096 → (before : ℕ) → s.wrong ≡ suc before → WrongBehind (reads_of bytes) before
+pub told_wrong : (bytes : List ℕ) {s : State} → Kept (reads_of bytes) s → s.lines ≤ 4096 → (before : ℕ) → s.wrong ≡ Some (suc before) → WrongBehind (reads_of bytes) before
 told_wrong bytes {s} kept few before w =
-    let f = found 1 (suc before) (lines_of bytes) (omega arith) (sym (first_of_all kept few) ∙ w) in
+    let f = found 1 (suc before) (lines_of bytes) (sym (first_of_all kept few) ∙ w) in
     let same : f.before ≡ before = omega (arith, f.number) in
     subst (WrongBehind (reads_of bytes)) same f.there
 

@@ -1,10 +1,10 @@
 -- Short inputs, computed.
-use Rattle.std.specs.Prelude.{◌≡◌, refl, List, [], ◌∷◌, ◌++◌, ℕ}
+use Rattle.std.specs.Prelude.{◌≡◌, refl, List, [], ◌∷◌, ◌++◌, ℕ, None, Some}
 use Rattle.frames.specs.Answers.{done, refused}
 use Rattle.frames.specs.Digits.{value_of, digit_of, capital, number_after, digits}
 use Rattle.lines.specs.Lines.{line_after, ended_by, ended_within, left_by, last_line}
 use Rattle.pairs.specs.Reads.{pair_of, reads_of}
-use Rattle.pairs.specs.State.{first_of, placed, one_more, lines_after}
+use Rattle.pairs.specs.State.{placed, one_more, lines_after}
 use Rattle.pairs.specs.Kept.{wrong_at, wrong_from, first_wrong}
 
 -- FFFFFFFF0000000A02: due 4,294,967,295, acting 10, door 2
@@ -38,18 +38,18 @@ unfolding late ended_within ended_by left_by line_after last_line pair_of digits
 three = refl
 
 -- the first wrong of two is told, counted from 1
-second : first_wrong (done (record { due = 1; acting = 2; door = 0 }) ∷ refused ∷ refused ∷ []) ≡ 2
+second : first_wrong (done (record { due = 1; acting = 2; door = 0 }) ∷ refused ∷ refused ∷ []) ≡ Some 2
 unfolding wrong_from wrong_at
 second = refl
 
 -- a pair, a line that is none, and another pair
-kept : lines_after (record { due = 7 ∷ 7 ∷ 7 ∷ []; acting = 7 ∷ 7 ∷ 7 ∷ []; doors = 7 ∷ 7 ∷ 7 ∷ []; lines = 0; wrong = 0 })
+kept : lines_after (record { due = 7 ∷ 7 ∷ 7 ∷ []; acting = 7 ∷ 7 ∷ 7 ∷ []; doors = 7 ∷ 7 ∷ 7 ∷ []; lines = 0; wrong = None })
     (done (record { due = 1; acting = 2; door = 0 }) ∷ refused ∷ done (record { due = 3; acting = 4; door = 1 }) ∷ [])
-    ≡ record { due = 1 ∷ 7 ∷ 3 ∷ []; acting = 2 ∷ 7 ∷ 4 ∷ []; doors = 0 ∷ 7 ∷ 1 ∷ []; lines = 3; wrong = 2 }
-unfolding lines_after one_more placed first_of
+    ≡ record { due = 1 ∷ 7 ∷ 3 ∷ []; acting = 2 ∷ 7 ∷ 4 ∷ []; doors = 0 ∷ 7 ∷ 1 ∷ []; lines = 3; wrong = Some 2 }
+unfolding lines_after one_more placed
 kept = refl
 
 -- behind 4,096 lines two more are counted as one
-full : lines_after (record { due = []; acting = []; doors = []; lines = 4096; wrong = 9 }) (refused ∷ refused ∷ []) ≡ record { due = []; acting = []; doors = []; lines = 4097; wrong = 9 }
+full : lines_after (record { due = []; acting = []; doors = []; lines = 4096; wrong = Some 9 }) (refused ∷ refused ∷ []) ≡ record { due = []; acting = []; doors = []; lines = 4097; wrong = Some 9 }
 unfolding lines_after one_more
 full = refl

@@ -1,5 +1,6 @@
 -- What is kept of the lines so far: their number, the first that is no pair, and the pairs in three lent arrays.
-use Rattle.std.specs.Prelude.{cond, List, [], ◌∷◌, ◌≡◌, ℕ, zero, suc, ◌+◌, ltb, length, set}
+use Rattle.std.specs.Prelude.{cond, List, [], ◌∷◌, ◌≡◌, ℕ, ◌+◌, ltb, length, set, Option, Some}
+use Rattle.std.specs.Option.{option_or}
 use Rattle.frames.specs.Answers.{Back}
 use Rattle.lateness.specs.Pairs.{Pair}
 use Rattle.pairs.specs.declared.Heard.{Heard}
@@ -9,7 +10,7 @@ pub record State : Type 0 where
   pub acting : List ℕ
   pub doors : List ℕ
   pub lines : ℕ
-  pub wrong : ℕ
+  pub wrong : Option ℕ
 
 abbrev pub state_of : List ℕ → List ℕ → List ℕ → Heard → State
 state_of due acting doors h = record { due = due; acting = acting; doors = doors; lines = h.lines; wrong = h.wrong }
@@ -20,14 +21,9 @@ pub record Room (due acting doors : List ℕ) : Type 0 where
   pub acting_long : length acting ≡ 4096
   pub doors_long : length doors ≡ 4096
 
--- the first wrong line stays the first; 0 is none
-unfoldable pub first_of : ℕ → ℕ → ℕ
-first_of zero n = n
-first_of (suc m) n = suc m
-
--- a line more among the first 4,096: a pair is kept at its place, else the line's number, counted from 1, is told
+-- a line more among the first 4,096: a pair is kept at its place, else the line's number, counted from 1, is told; the first wrong line stays the first
 unfoldable pub placed : State → List Pair → State
-placed s [] = record { due = s.due; acting = s.acting; doors = s.doors; lines = s.lines + 1; wrong = first_of s.wrong (s.lines + 1) }
+placed s [] = record { due = s.due; acting = s.acting; doors = s.doors; lines = s.lines + 1; wrong = option_or s.wrong (Some (s.lines + 1)) }
 placed s (p ∷ ps) = record {
   due = set s.due s.lines p.due;
   acting = set s.acting s.lines p.acting;

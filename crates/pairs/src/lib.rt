@@ -1,176 +1,134 @@
 // Pairs of due and acting tick with a door, one a line; the input comes in any pieces and is kept in three lent arrays.
 #![tactic(auto)]
 
-ghost use Rattle.std.specs.Prelude.{◌≡◌, [], length};
+ghost use Rattle.std.specs.Prelude.{◌≡◌, [], None};
 ghost use Rattle.lines.specs.Cutter.{feed_of, kept, kept_after};
 ghost use Rattle.pairs.specs.Reads.{pair_of, reads_by, reads_from, last_reads};
-ghost use Rattle.pairs.specs.State.{state_of, first_of, one_more, lines_after, Room};
+ghost use Rattle.pairs.specs.State.{state_of, one_more, lines_after, Room};
 ghost use Rattle.pairs.specs.Answers.{pair_back};
 
-use lines::Cutter;
-
-const LINE_END: u8 = 10;
+use lateness::MOST_PAIRS;
+use lines::{Cutter, LINE_END};
 
 // The digits of a pair: due 8, acting 8, door 2.
 const DIGITS: usize = 18;
 
-// As many pairs as are kept.
-const MOST: usize = 4096;
-
 // Lines are counted so far and no further.
-const TOO_MANY: usize = 4097;
+const TOO_MANY: usize = MOST_PAIRS + 1;
 
-#[derive(Clone, Copy)]
+#[derive(Clone, Copy, Debug, PartialEq, Eq)]
 pub struct Pair {
     pub due: u32,
     pub acting: u32,
     pub door: u8,
 }
 
-#[derive(Clone, Copy)]
-pub enum ReadPair {
-    Pair(Pair),
-    NotAPair,
-}
-
-// wrong is the number of the first line that is no pair, counted from 1; 0 while there is none.
+// wrong is the number of the first line that is no pair, counted from 1.
 #[derive(Clone, Copy)]
 pub struct Heard {
     pub cutter: Cutter,
     pub lines: usize,
-    pub wrong: usize,
+    pub wrong: Option<usize>,
 }
 
-pub fn nothing_heard() -> Heard
-    ensures cutter_value { kept result.cutter ≡ [] }
-    ensures lines_value { result.lines ≡ 0 }
-    ensures wrong_value { result.wrong ≡ 0 }
-{
-    Heard {
-        cutter: Cutter::new(),
-        lines: 0,
-        wrong: 0,
-    }
-}
-
-fn read(line: &[u8]) -> ReadPair
-    requires { length line.now ≡ 18 }
+#[tactic(auto, using(crate::proofs::ReadLaws::pair_rough, crate::proofs::ReadLaws::pair_other))]
+fn read(line: &[u8]) -> Option<Pair>
     ensures { pair_back result ≡ pair_of line.now }
 {
-    if frames::capital(line) {
-        let due = frames::number(&line[0..8]) as u32;
-        let acting = frames::number(&line[8..16]) as u32;
-        let door = frames::number(&line[16..18]) as u8;
-        return ReadPair::Pair(Pair { due, acting, door });
+    if line.len() != DIGITS || !frames::capital(line) {
+        return None;
     }
-    ReadPair::NotAPair
+    Some(Pair {
+        due: frames::number(&line[..8]) as u32,
+        acting: frames::number(&line[8..16]) as u32,
+        door: frames::number(&line[16..18]) as u8,
+    })
 }
 
-#[tactic(auto, using(crate::proofs::ReadLaws::pair_kept, crate::proofs::ReadLaws::none_kept))]
-fn line_read(cutter: Cutter) -> ReadPair
-    ensures { pair_back result ≡ pair_of (kept cutter) }
-{
-    let bytes = cutter.bytes;
-    let len = cutter.len;
-    if len == DIGITS {
-        return read(&bytes[..DIGITS]);
-    }
-    ReadPair::NotAPair
-}
-
-// The first wrong line stays the first.
-#[tactic(auto, using(crate::proofs::StateLaws::first_none, crate::proofs::StateLaws::first_some))]
-fn first_of(so_far: usize, line: usize) -> usize
-    ensures { result ≡ first_of so_far line }
-{
-    if so_far == 0 {
-        return line;
-    }
-    so_far
-}
-
-// The line that is kept ends.
-#[tactic(auto, using(crate::proofs::StateLaws::more_over, crate::proofs::StateLaws::more_none))]
-fn ended(due: &mut [u32], acting: &mut [u32], doors: &mut [u8], heard: Heard) -> Heard
-    requires { Room due.old acting.old doors.old }
-    ensures result_after { state_of due.new acting.new doors.new result ≡ one_more (state_of due.old acting.old doors.old heard) (pair_of (kept heard.cutter)) }
-    ensures cutter_value { kept result.cutter ≡ [] }
-{
-    let at = heard.lines;
-    let wrong = heard.wrong;
-    if MOST <= at {
-        return Heard {
+impl Heard {
+    pub fn new() -> Self
+        ensures cutter_value { kept result.cutter ≡ [] }
+        ensures lines_value { result.lines ≡ 0 }
+        ensures wrong_value { result.wrong ≡ None }
+    {
+        Self {
             cutter: Cutter::new(),
-            lines: TOO_MANY,
-            wrong,
-        };
-    }
-    let number = at + 1;
-    match line_read(heard.cutter) {
-        ReadPair::Pair(pair) => {
-            due[at] = pair.due;
-            acting[at] = pair.acting;
-            doors[at] = pair.door;
-            Heard {
-                cutter: Cutter::new(),
-                lines: number,
-                wrong,
-            }
+            lines: 0,
+            wrong: None,
         }
-        ReadPair::NotAPair => Heard {
+    }
+
+    // The line that is kept ends. The first wrong line stays the first.
+    #[tactic(auto, using(crate::proofs::StateLaws::more_over, crate::proofs::StateLaws::more_none))]
+    fn ended(self, due: &mut [u32], acting: &mut [u32], doors: &mut [u8]) -> Self
+        requires { Room due.old acting.old doors.old }
+        ensures result_after { state_of due.new acting.new doors.new result ≡ one_more (state_of due.old acting.old doors.old self) (pair_of (kept self.cutter)) }
+        ensures cutter_value { kept result.cutter ≡ [] }
+    {
+        if MOST_PAIRS <= self.lines {
+            return Self {
+                cutter: Cutter::new(),
+                lines: TOO_MANY,
+                ..self
+            };
+        }
+        let at = self.lines;
+        let lines = at + 1;
+        let Some(pair) = read(self.cutter.kept()) else {
+            return Self {
+                cutter: Cutter::new(),
+                lines,
+                wrong: self.wrong.or(Some(lines)),
+            };
+        };
+        due[at] = pair.due;
+        acting[at] = pair.acting;
+        doors[at] = pair.door;
+        Self {
             cutter: Cutter::new(),
-            lines: number,
-            wrong: first_of(wrong, number),
-        },
+            lines,
+            ..self
+        }
     }
-}
 
-#[tactic(auto, using(crate::proofs::HearLaws::byte_laws))]
-fn hear_byte(due: &mut [u32], acting: &mut [u32], doors: &mut [u8], heard: Heard, byte: u8) -> Heard
-    requires { Room due.old acting.old doors.old }
-    ensures result_after { state_of due.new acting.new doors.new result ≡ lines_after (state_of due.old acting.old doors.old heard) (reads_by (kept heard.cutter) byte) }
-    ensures cutter_value { kept result.cutter ≡ (feed_of (kept heard.cutter) byte).keeps }
-{
-    if byte == LINE_END {
-        return ended(due, acting, doors, heard);
+    #[tactic(auto, using(crate::proofs::HearLaws::byte_laws))]
+    fn hear_byte(self, due: &mut [u32], acting: &mut [u32], doors: &mut [u8], byte: u8) -> Self
+        requires { Room due.old acting.old doors.old }
+        ensures result_after { state_of due.new acting.new doors.new result ≡ lines_after (state_of due.old acting.old doors.old self) (reads_by (kept self.cutter) byte) }
+        ensures cutter_value { kept result.cutter ≡ (feed_of (kept self.cutter) byte).keeps }
+    {
+        if byte == LINE_END {
+            return self.ended(due, acting, doors);
+        }
+        Self {
+            cutter: self.cutter.onward(byte),
+            ..self
+        }
     }
-    Heard {
-        cutter: lines::onward(heard.cutter, byte),
-        lines: heard.lines,
-        wrong: heard.wrong,
-    }
-}
 
-// A piece of the input.
-pub fn hear(
-    due: &mut [u32],
-    acting: &mut [u32],
-    doors: &mut [u8],
-    heard: Heard,
-    piece: &[u8],
-) -> Heard
-    requires { Room due.old acting.old doors.old }
-    ensures result_after { state_of due.new acting.new doors.new result ≡ lines_after (state_of due.old acting.old doors.old heard) (reads_from (kept heard.cutter) piece.now) }
-    ensures cutter_value { kept result.cutter ≡ kept_after (kept heard.cutter) piece.now }
-{
-    let mut so_far = heard;
-    let mut i = 0;
-    while i < piece.len() {
-        so_far = hear_byte(due, acting, doors, so_far, piece[i]);
-        i += 1;
+    // A piece of the input.
+    pub fn hear(self, due: &mut [u32], acting: &mut [u32], doors: &mut [u8], piece: &[u8]) -> Self
+        requires { Room due.old acting.old doors.old }
+        ensures result_after { state_of due.new acting.new doors.new result ≡ lines_after (state_of due.old acting.old doors.old self) (reads_from (kept self.cutter) piece.now) }
+        ensures cutter_value { kept result.cutter ≡ kept_after (kept self.cutter) piece.now }
+    {
+        let mut heard = self;
+        for byte in piece {
+            heard = heard.hear_byte(due, acting, doors, *byte);
+        }
+        heard
     }
-    so_far
-}
 
-// The last line, which counts if it has at least one byte.
-#[tactic(auto, using(crate::proofs::HearLaws::last_none, crate::proofs::HearLaws::last_some))]
-pub fn finish(due: &mut [u32], acting: &mut [u32], doors: &mut [u8], heard: Heard) -> Heard
-    requires { Room due.old acting.old doors.old }
-    ensures result_after { state_of due.new acting.new doors.new result ≡ lines_after (state_of due.old acting.old doors.old heard) (last_reads (kept heard.cutter)) }
-    ensures cutter_value { kept result.cutter ≡ [] }
-{
-    if heard.cutter.len == 0 {
-        return heard;
+    // The last line, which counts if it has at least one byte.
+    #[tactic(auto, using(crate::proofs::HearLaws::last_none, crate::proofs::HearLaws::last_some))]
+    pub fn finish(self, due: &mut [u32], acting: &mut [u32], doors: &mut [u8]) -> Self
+        requires { Room due.old acting.old doors.old }
+        ensures result_after { state_of due.new acting.new doors.new result ≡ lines_after (state_of due.old acting.old doors.old self) (last_reads (kept self.cutter)) }
+        ensures cutter_value { kept result.cutter ≡ [] }
+    {
+        if self.cutter.kept().is_empty() {
+            return self;
+        }
+        self.ended(due, acting, doors)
     }
-    ended(due, acting, doors, heard)
 }

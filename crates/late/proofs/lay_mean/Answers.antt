@@ -1,13 +1,12 @@
 -- The sum, and the count behind it.
-use mathlib.Core.Path.{refl}
-use native.Mathlib.Omega.{arith}
+use Rattle.std.proofs.Common.{rules}
 use Rattle.text.specs.Bytes.{bytes}
-use Rattle.late.proofs.LineLaws.{as_count, as_late, sum_as_read, mean_laid}
+use Rattle.late.proofs.LineLaws.{as_count, as_late, mean_laid}
 use Rattle.late.proofs.lay_mean.Goals as goal
 
-pub returns : goal.returns
+pub returns-clause-text : goal.returns-clause-text
 unfolding bytes
-returns c =
-    let sum = as_late "  mean " (sum_as_read c.requires.0.total) c.lay_late-end.ensures.0 in
-    let count = as_count "/" refl c.lay_count.ensures.0 in
-    (mean_laid _ (omega arith) sum count, omega (arith, c.lay_count.ensures.1, c.lay_late-end.ensures.1))
+returns-clause-text c =
+    let sum = as_late "  mean " _ (search rules) c.field.ensures.text in
+    let count = as_count "/" _ _ c.field-2.ensures.text in
+    mean_laid _ _ sum count
