@@ -1,8 +1,8 @@
 -- A piece, by calls of `run_piece`: the lines among its first bytes have been answered, and their answers written.
 use mathlib.Core.Path.{◌≡◌, refl, sym, ap, ◌∙◌, subst}
+use mathlib.Core.List.{List, [], ◌∷◌, ◌++◌}
 use mathlib.Core.Bool.{true}
 use Rattle.std.proofs.lemmas.Bool.{true≢false}
-use mathlib.Core.List.{List, [], ◌∷◌, ◌++◌}
 use Prim.Native.Nat.{ℕ, zero, suc, ◌+◌, ◌-◌, ◌≤◌, ◌<◌}
 use native.Mathlib.Omega.{arith}
 use lib.ListN.{length, take, drop}
@@ -12,10 +12,10 @@ use Rattle.std.specs.Prelude.{Option}
 use Rattle.std.specs.Io.KnownBytes.{Appends, Consumes, IsAtEnd, Keeps}
 use Rattle.std.proofs.KnownBytes.{Appends-nil, Appends-trans, Consumes-nil, Consumes-kept}
 use Rattle.streams.specs.Fronts.{AppendsFront}
-use Rattle.frames.specs.Answers.{Back, written_back}
-use Rattle.frames.specs.declared.Written.{Written}
-use Rattle.frames.specs.declared.Written.TheVariants.{Bytes, Refused}
-use Rattle.frames.proofs.AnswerLaws.{done_same, not_done}
+use Rattle.frames.specs.Answers.{Back, back}
+use Rattle.frames.specs.declared.NotAFrame.{NotAFrame}
+use Rattle.std.specs.Prelude.{Result, Ok, IsOk}
+use Rattle.frames.proofs.AnswerLaws.{done_same}
 use Rattle.frames.specs.declared.Order.{Order}
 use Rattle.lines.specs.Lines.{between, last_line}
 use Rattle.lines.specs.Cutter.{kept_after, orders_from, last_of}
@@ -118,19 +118,19 @@ unfolding last_line
 last_few [] = omega arith
 last_few (b ∷ bs) = omega arith
 
-module _ {n : ℕ} {ws ws' work work' o o' : List ℕ} {r : Written} (k : List ℕ) (served : Served n ws ws' work work' (last_of k) o o' r) (room : length o ≡ 27) where
+module _ {n : ℕ} {ws ws' work work' o o' : List ℕ} {r : Result ℕ NotAFrame} (k : List ℕ) (served : Served n ws ws' work work' (last_of k) o o' r) (room : 27 ≤ length o) where
   filled : Filled n ws ws' work work' (last_of k) o o' r
   filled = served.room (omega (arith, last_few k))
 
-  stands : (m : ℕ) → r ≡ Bytes m → take m o' ≡ filled.bytes
-  stands m e = ap (take m) filled.after ∙ take_at filled.bytes (drop (length filled.bytes) o) m (sym (done_same (ap written_back (sym e ∙ filled.count))))
+  stands : (m : ℕ) → r ≡ Ok m → take m o' ≡ filled.bytes
+  stands m e = ap (take m) filled.after ∙ take_at filled.bytes (drop (length filled.bytes) o) m (sym (done_same (ap back (sym e ∙ filled.count))))
 
-  pub last_answered : {out out' : Option (List ℕ)} (m : ℕ) → r ≡ Bytes m → Appends out out' (take m o') → Answered n ws ws' work work' (last_of k) out out'
+  pub last_answered : {out out' : Option (List ℕ)} (m : ℕ) → r ≡ Ok m → Appends out out' (take m o') → Answered n ws ws' work work' (last_of k) out out'
   last_answered {out} {out'} m e all = record { bytes = filled.bytes; run = filled.run; written = subst (Appends out out') (stands m e) all }
 
-  pub last_stopped : {out out' : Option (List ℕ)} (m : ℕ) → r ≡ Bytes m → AppendsFront out out' (take m o') → AnsweredFront n ws ws' work work' (last_of k) out out'
+  pub last_stopped : {out out' : Option (List ℕ)} (m : ℕ) → r ≡ Ok m → AppendsFront out out' (take m o') → AnsweredFront n ws ws' work work' (last_of k) out out'
   last_stopped {out} {out'} m e front = record { bytes = filled.bytes; run = filled.run; written = subst (AppendsFront out out') (stands m e) front }
 
   -- there is room
-  pub never_refused : {X : Type 0} → r ≡ Refused → X
-  never_refused e = absurd (not_done (ap written_back (sym e ∙ filled.count)))
+  pub last_done : IsOk r
+  last_done = rw filled.count refl

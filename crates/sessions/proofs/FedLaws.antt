@@ -6,9 +6,9 @@ use native.Mathlib.Omega.{arith}
 use native.Mathlib.Decide.{dec_lt}
 use lib.ListN.{length, take, drop, take-append-drop, drop_of_length-le}
 use lib.Seq.{drop-drop, take_at}
-use Rattle.frames.specs.Answers.{Back, written_back}
+use Rattle.frames.specs.Answers.{Back, back}
 use Rattle.frames.specs.declared.Order.{Order}
-use Rattle.frames.specs.declared.Written.TheVariants.{Bytes}
+use Rattle.std.specs.Prelude.{Ok}
 use Rattle.frames.proofs.AnswerLaws.{done_same, not_done}
 use Rattle.lines.specs.Lines.{between}
 use Rattle.lines.specs.Cutter.{kept_after, orders_from, last_of}
@@ -62,14 +62,14 @@ module _ {piece : List ℕ} where
   piece_answered (call ws work k ws₁ work₁ k₁ ws' work' k' out out₁ bytes at at₁ written ran rest) =
       one_more ws work k ws₁ work₁ k₁ ws' work' k' out out₁ bytes at at₁ written ran (piece_answered rest)
 
-last_run : (n : ℕ) (ws work ws' work' out out' : List ℕ) (reads : List (Back Order)) (written : ℕ) → Served n ws ws' work work' reads out out' (Bytes written)
+last_run : (n : ℕ) (ws work ws' work' out out' : List ℕ) (reads : List (Back Order)) (written : ℕ) → Served n ws ws' work work' reads out out' (Ok written)
     → Runs n ws work reads ws' work' (take written out')
 last_run n ws work ws' work' out out' reads written served =
     elim (dec_lt (length out) (27 * length reads)) [
-      | yes short ↦ not_done (ap written_back (sym (served.short short).0))
+      | yes short ↦ not_done (ap back (sym (served.short short).0))
       | no room ↦
           let f = served.room (omega arith) in
-          let many : length f.bytes ≡ written = sym (done_same (ap written_back f.count)) in
+          let many : length f.bytes ≡ written = sym (done_same (ap back f.count)) in
           subst (Runs n ws work reads ws' work') (sym (ap (take written) f.after ∙ take_at f.bytes (drop (length f.bytes) out) written many)) f.run
     ]
 

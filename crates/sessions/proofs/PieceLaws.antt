@@ -9,9 +9,9 @@ use native.Mathlib.Decide.{dec_lt, ℕ_discrete}
 use lib.Dec.{eqb}
 use lib.ListN.{length, take, drop, length-append, length-drop}
 use lib.Seq.{drop-drop, take-add, take_at, drop_at}
-use Rattle.frames.specs.Answers.{Back, written_back}
-use Rattle.frames.specs.declared.Written.{Written}
-use Rattle.frames.specs.declared.Written.TheVariants.{Bytes}
+use Rattle.frames.specs.Answers.{Back, back}
+use Rattle.frames.specs.declared.NotAFrame.{NotAFrame}
+use Rattle.std.specs.Prelude.{Result, Ok}
 use Rattle.frames.proofs.AnswerLaws.{done_same, not_done}
 use Rattle.frames.specs.declared.Order.{Order}
 use Rattle.lines.specs.Lines.{ended_by, between}
@@ -208,12 +208,12 @@ module _ {n : ℕ} {ws ws' work work' k piece : List ℕ} {at : ℕ} {out out' k
       ]
 
 -- what was answered fits the buffer
-pub served_fits : {size : ℕ} {ws ws' work work' : List ℕ} {reads : List (Back Order)} {out out' : List ℕ} {r : Written} (n : ℕ) → Served size ws ws' work work' reads out out' r → r ≡ Bytes n → n ≤ length out
+pub served_fits : {size : ℕ} {ws ws' work work' : List ℕ} {reads : List (Back Order)} {out out' : List ℕ} {r : Result ℕ NotAFrame} (n : ℕ) → Served size ws ws' work work' reads out out' r → r ≡ Ok n → n ≤ length out
 served_fits {reads = reads} {out = out} n served e =
     elim (dec_lt (length out) (27 * length reads)) [
-      | yes h ↦ not_done (ap written_back (sym (served.short h).0 ∙ e))
+      | yes h ↦ not_done (ap back (sym (served.short h).0 ∙ e))
       | no g ↦
           let f = served.room (omega arith) in
-          let same : n ≡ length f.bytes = done_same (ap written_back (sym e ∙ f.count)) in
+          let same : n ≡ length f.bytes = done_same (ap back (sym e ∙ f.count)) in
           omega (arith, runs_long f.run)
     ]

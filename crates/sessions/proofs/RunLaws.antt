@@ -4,108 +4,40 @@ use mathlib.Core.Bool.{Bool, true, false}
 use mathlib.Core.List.{List, [], ◌∷◌, ◌++◌, append_assoc, append-nil}
 use Prim.Native.Nat.{ℕ, zero, suc, ◌+◌, ◌-◌, ◌*◌, ◌/◌, ◌%◌, ◌^◌, ◌≤◌, ◌<◌}
 use native.Mathlib.Omega.{arith}
-use native.Mathlib.Decide.{dec_lt}
 use native.Mathlib.Nat.{pow-suc, mul_assoc}
-use lib.ListN.{length, take, drop, length-append, take-append-drop, drop_of_length-le}
-use lib.Seq.{drop-drop, drop_at, take-add, take_all, take-nil, length-take-le}
+use lib.ListN.{length, take, drop, length-append, take-append-drop}
+use lib.Seq.{drop-drop}
 use borrow.Author.Tests.{le-leb}
+use Rattle.std.proofs.lemmas.List.{drop-take}
 use borrow.Rule.Slice.PartMut.{mid_of, post_of, put_mid, Post-is, mid_len}
-use Rattle.rules.specs.declared.Answer.{Answer}
-use Rattle.rules.specs.declared.Answer.TheVariants.{NotAFrame}
-use Rattle.rules.specs.Answers.{number_of, is_done}
+use Rattle.rules.specs.Answers.{Answer, NotAFrame, number_of, is_done, answer_in, word_in, steps_in, packed_in}
+use Rattle.rules.specs.declared.Done as code
+use Rattle.rules.specs.declared.Refusal.{Refusal}
 use Rattle.rules.specs.Calls as rules
-use Rattle.rules.specs.Examples as orders
-use Rattle.frames.specs.Answers.{Back, done, read_back, written_back}
-use Rattle.frames.specs.Entries.{word_of}
-use Rattle.frames.specs.declared.Entry.{Entry}
-use Rattle.frames.specs.declared.ReadFrame.{ReadFrame}
-use Rattle.frames.specs.declared.ReadFrame.TheVariants.{Order as Read, NotAFrame as NotRead}
-use Rattle.frames.specs.declared.Order.TheVariants.{Setup, Insert, Take, Look, Held, Audit}
+use Rattle.frames.specs.Answers.{Back, done, not_a_frame, read_back, back}
 use Rattle.frames.specs.AnswerLine.{answer_line}
 use Rattle.frames.specs.Digits.{digits}
 use Rattle.frames.specs.Lines.{Laid}
 use Rattle.frames.specs.declared.Order.{Order}
-use Rattle.frames.specs.declared.Written.{Written}
-use Rattle.frames.specs.declared.Written.TheVariants.{Bytes, Refused}
-use Rattle.frames.proofs.AnswerLaws.{done_same, not_done, written_same}
+use Rattle.frames.specs.declared.NotAFrame.{NotAFrame as NoFrame}
+use Rattle.std.specs.Prelude.{Result, Ok, Err, IsOk}
+use Rattle.frames.proofs.AnswerLaws.{done_same, back_same}
 use Rattle.frames.proofs.Laying.{answer_long}
 use Rattle.lines.specs.Answers.{ended_back}
-use Rattle.lines.specs.Cutter.{last_of}
-use Rattle.lines.specs.declared.Ended.{Ended}
-use Rattle.lines.specs.declared.Ended.TheVariants.{Line, Nothing}
-use Rattle.buffers.specs.Format.{links_in, lent_of}
-use Rattle.queue.specs.Calls.{Called, SlotsKept, WorkKept, Besides}
+use Rattle.std.specs.Prelude.{Option, Some, None}
+use Rattle.buffers.specs.Format.{lent_of}
+use Rattle.queue.specs.Calls.{Called}
 use Rattle.queue.proofs.CallLaws.{refused_called}
 use Rattle.queue.proofs.AgreeLaws.{the_answer}
 use Rattle.queue.proofs.BesidesLaws.{besides_inside}
-use Rattle.sessions.specs.Runs.{asked, order_call, values_call, line_call, answer_of, After, Left, Runs, ends, goes, Filled, Served, ServedAt}
+use Rattle.sessions.specs.Runs.{asked, values_call, line_call, answer_of, After, Left, Runs, ends, goes, Filled, Served, ServedAt}
 
 -- ---- one call
 
--- an order's call is the rules' own
-module _ (ws ws' : List ℕ) (work : ℕ) (order : Order) (answer : Answer) (word steps : ℕ) (packed : Bool) where
-  pub setup_called : (links : ℕ) → order ≡ Setup links → Called ws ws' (rules.setup links (lent_of ws)) answer word steps packed → Called ws ws' (order_call work order (lent_of ws)) answer word steps packed
-  unfolding order_call orders.call
-  setup_called links e called = rw e called
-
-  pub insert_called : (entry : ℕ) (e : Entry) → entry ≡ word_of e → order ≡ Insert e → Called ws ws' (rules.insert work entry (lent_of ws)) answer word steps packed
-      → Called ws ws' (order_call work order (lent_of ws)) answer word steps packed
-  unfolding order_call orders.call
-  insert_called entry e w q called = rw (q, ← w) called
-
-  pub take_called : order ≡ Take → Called ws ws' (rules.take (lent_of ws)) answer word steps packed → Called ws ws' (order_call work order (lent_of ws)) answer word steps packed
-  unfolding order_call orders.call
-  take_called e called = rw e called
-
-  pub look_called : order ≡ Look → Called ws ws' (rules.look (lent_of ws)) answer word steps packed → Called ws ws' (order_call work order (lent_of ws)) answer word steps packed
-  unfolding order_call orders.call
-  look_called e called = rw e called
-
-  pub held_called : order ≡ Held → Called ws ws' (rules.held_call (lent_of ws)) answer word steps packed → Called ws ws' (order_call work order (lent_of ws)) answer word steps packed
-  unfolding order_call orders.call
-  held_called e called = rw e called
-
-  pub audit_called : order ≡ Audit → Called ws ws' (rules.audit (lent_of ws)) answer word steps packed → Called ws ws' (order_call work order (lent_of ws)) answer word steps packed
-  unfolding order_call orders.call
-  audit_called e called = rw e called
-
--- and so is what it leaves
-module _ (ws ws' work work' : List ℕ) (order : Order) (answer : Answer) where
-  pub setup_left : (links : ℕ) → order ≡ Setup links → SlotsKept ws ws' → work' ≡ work → Besides (asked order) ws ws' work work' answer
-  setup_left links e slots same = rw e (slots, same)
-
-  pub insert_left : (e : Entry) → order ≡ Insert e → WorkKept (links_in ws) answer work work' → Besides (asked order) ws ws' work work' answer
-  insert_left e q kept = rw q kept
-
-  pub take_left : order ≡ Take → work' ≡ work → Besides (asked order) ws ws' work work' answer
-  take_left e same = rw e same
-
-  pub look_left : order ≡ Look → work' ≡ work → Besides (asked order) ws ws' work work' answer
-  look_left e same = rw e same
-
-  pub held_left : order ≡ Held → ws' ≡ ws → work' ≡ work → Besides (asked order) ws ws' work work' answer
-  held_left e unchanged same = rw e (unchanged, same)
-
-  pub audit_left : order ≡ Audit → ws' ≡ ws → work' ≡ work → Besides (asked order) ws ws' work work' answer
-  audit_left e unchanged same = rw e (unchanged, same)
-
--- what a line does is what its order does
-pub line_called : (ws ws' : List ℕ) (work : ℕ) (read : ReadFrame) (order : Order) (answer : Answer) (word steps : ℕ) (packed : Bool) → read ≡ Read order
-    → Called ws ws' (order_call work order (lent_of ws)) answer word steps packed → Called ws ws' (line_call work (read_back read) (lent_of ws)) answer word steps packed
-unfolding values_call
-line_called ws ws' work read order answer word steps packed e called = rw e called
-
-pub line_left : (ws ws' work work' : List ℕ) (read : ReadFrame) (order : Order) (answer : Answer) → read ≡ Read order
-    → Besides (asked order) ws ws' work work' answer → Left (read_back read).values ws ws' work work' answer
-line_left ws ws' work work' read order answer e left = rw e left
-
 -- a line that is no frame
-pub nothing_left : (ws work : List ℕ) (read : ReadFrame) (answer : Answer) → read ≡ NotRead → Left (read_back read).values ws ws work work answer
-nothing_left ws work read answer e = rw e (refl, refl)
-
-pub line_refused : (ws : List ℕ) (work : ℕ) (read : ReadFrame) → read ≡ NotRead → Called ws ws (line_call work (read_back read) (lent_of ws)) NotAFrame 0 0 false
+pub line_refused : (ws : List ℕ) (work : ℕ) (read : Result Order NoFrame) (e : NoFrame) → read ≡ Err e → Called ws ws (line_call work (read_back read) (lent_of ws)) NotAFrame 0 0 false
 unfolding values_call is_done
-line_refused ws work read e = rw e (refused_called ws (rules.refused NotAFrame (rules.queue_of (lent_of ws))) NotAFrame refl refl)
+line_refused ws work read e same = rw same (refused_called ws (rules.refused NotAFrame (rules.queue_of (lent_of ws))) NotAFrame refl refl)
 
 pub after_called : (ws ws' : List ℕ) (o : rules.Outcome) (answer : Answer) (word steps : ℕ) (packed : Bool) → Called ws ws' o answer word steps packed → After ws ws' o
 after_called ws ws' o answer word steps packed called = record {
@@ -168,62 +100,44 @@ runs_keep_long {n} (goes ws work next left ws' work' read reads bytes after leav
 
 -- ---- answers laid
 
-pub served_short : (n : ℕ) (ws work : List ℕ) (read : Back Order) (out : List ℕ) → length out < 27 → Served n ws ws work work (read ∷ []) out out Refused
+pub served_short : (n : ℕ) (ws work : List ℕ) (read : Back Order) (out : List ℕ) → length out < 27 → Served n ws ws work work (read ∷ []) out out (Err not_a_frame)
 served_short n ws work read out h = record { room = λ g. absurd (omega arith); short = λ g. (refl, refl, refl, refl) }
 
-pub served_nothing : (n : ℕ) (ws work out : List ℕ) → Served n ws ws work work [] out out (Bytes 0)
+pub served_nothing : (n : ℕ) (ws work out : List ℕ) → Served n ws ws work work [] out out (Ok 0)
 served_nothing n ws work out = record { room = λ g. record { bytes = []; run = ends ws work; count = refl; after = refl }; short = λ g. absurd (omega arith) }
 
-pub served_one : (n : ℕ) (ws ws' work work' : List ℕ) (read : Back Order) (out out' : List ℕ) (r : Written) (answer : Answer) (number word steps : ℕ) (packed : Bool) → 27 ≤ length out
-    → Called ws ws' (line_call n read (lent_of ws)) answer word steps packed → Left read.values ws ws' work work' answer → number ≡ number_of answer
+pub served_one : (n : ℕ) (ws ws' work work' : List ℕ) (read : Back Order) (out out' : List ℕ) (r : Result ℕ NoFrame) (z : Result code.Done Refusal) (number word steps : ℕ) → 27 ≤ length out
+    → Called ws ws' (line_call n read (lent_of ws)) (answer_in z) (word_in z) (steps_in z) (packed_in z) → Left read.values ws ws' work work' (answer_in z)
+    → number ≡ number_of (answer_in z) → word ≡ word_in z → steps ≡ steps_in z
     → Laid true (answer_line number word (steps % 4294967296)) out out' r → Served n ws ws' work work' (read ∷ []) out out' r
-served_one n ws ws' work work' read out out' r answer number word steps packed h called left number_is laid =
+served_one n ws ws' work work' read out out' r z number word steps h called left number_is word_is steps_are laid =
     let o : rules.Outcome = line_call n read (lent_of ws) in
     let line : answer_line number word (steps % 4294967296) ≡ answer_of o =
-    rw (number_is, the_answer called, called.word_is, called.steps_are, digits_rest o.steps) refl in
+    rw (number_is, the_answer called, word_is, called.word_is, steps_are, called.steps_are, digits_rest o.steps) refl in
     let laid : Laid true (answer_of o) out out' r = subst (λ l. Laid true l out out' r) line laid in
     let long : length (answer_of o) ≡ 27 = answer_long (number_of o.answer) o.word o.steps in
     let fits = le-leb (length (answer_of o)) (length out) (omega arith) in
     record {
       room = λ g. record {
         bytes = answer_of o;
-        run = runs_one n ws ws' work work' read (after_called ws ws' o answer word steps packed called) (subst (Left read.values ws ws' work work') (the_answer called) left);
-        count = written_same r (Bytes (length (answer_of o))) (laid.answer ∙ rw fits refl);
+        run = runs_one n ws ws' work work' read (after_called ws ws' o (answer_in z) (word_in z) (steps_in z) (packed_in z) called) (subst (Left read.values ws ws' work work') (the_answer called) left);
+        count = back_same r (Ok (length (answer_of o))) (laid.answer ∙ rw fits refl);
         after = laid.after ∙ rw fits refl;
       };
       short = λ g. absurd (omega arith);
     }
 
--- what is left of a beginning
-drop_take : (m k : ℕ) (l : List ℕ) → drop m (take (m + k) l) ≡ take k (drop m l)
-drop_take m k l =
-    elim (dec_lt (length l) m) [
-      | yes h ↦
-          let short : length l ≤ m = omega arith in
-          ap (drop m) (take_all (m + k) l (omega arith)) ∙ drop_of_length-le l short ∙ sym (ap (take k) (drop_of_length-le l short) ∙ take-nil k)
-      | no g ↦ ap (drop m) (take-add m k l) ∙ drop_at (take m l) (take k (drop m l)) m (length-take-le m l (omega arith))
-    ]
-
 -- a line that may have ended
 
-pub served_line : (n : ℕ) (ws ws' work work' : List ℕ) (ended : Ended) (read : ReadFrame) (out out' : List ℕ) (r : Written) → ended ≡ Line read
-    → Served n ws ws' work work' (read_back read ∷ []) out out' r → Served n ws ws' work work' (ended_back ended) out out' r
-served_line n ws ws' work work' ended read out out' r e served = rw e served
-
-pub served_none : (n : ℕ) (ws work : List ℕ) (ended : Ended) (out : List ℕ) → ended ≡ Nothing → Served n ws ws work work (ended_back ended) out out (Bytes 0)
+pub served_none : (n : ℕ) (ws work : List ℕ) (ended : Option (Result Order NoFrame)) (out : List ℕ) → ended ≡ None → Served n ws ws work work (ended_back ended) out out (Ok 0)
 served_none n ws work ended out e = rw e (served_nothing n ws work out)
 
--- the last line
-pub served_last : (n : ℕ) (ws ws' work work' : List ℕ) (ended : Ended) (k out out' : List ℕ) (r : Written) → ended_back ended ≡ last_of k
-    → Served n ws ws' work work' (ended_back ended) out out' r → Served n ws ws' work work' (last_of k) out out' r
-served_last n ws ws' work work' ended k out out' r e served = subst (λ (reads : List (Back Order)). Served n ws ws' work work' reads out out' r) e served
-
-ended_few : (e : Ended) → 27 * length (ended_back e) ≤ 27
-ended_few (Line read) = omega arith
-ended_few Nothing = omega arith
+ended_few : (e : Option (Result Order NoFrame)) → 27 * length (ended_back e) ≤ 27
+ended_few (Some read) = omega arith
+ended_few None = omega arith
 
 -- the part of a buffer that has just room for one answer
-module _ (n : ℕ) (ws ws' work work' : List ℕ) (ended : Ended) (out part : List ℕ) (at : ℕ) (r : Written) (room : at + 27 ≤ length out)
+module _ (n : ℕ) (ws ws' work work' : List ℕ) (ended : Option (Result Order NoFrame)) (out part : List ℕ) (at : ℕ) (r : Result ℕ NoFrame) (room : at + 27 ≤ length out)
     (served : Served n ws ws' work work' (ended_back ended) (mid_of at (at + 27 - at) out) part r) where
   part_long : length (mid_of at (at + 27 - at) out) ≡ 27
   part_long = mid_len at (at + 27) out room ∙ omega arith
@@ -231,18 +145,18 @@ module _ (n : ℕ) (ws ws' work work' : List ℕ) (ended : Ended) (out part : Li
   part_filled : Filled n ws ws' work work' (ended_back ended) (mid_of at (at + 27 - at) out) part r
   part_filled = served.room (omega (arith, ended_few ended, part_long))
 
-  pub part_refused : {P : Type 0} → r ≡ Refused → P
-  part_refused e = not_done (ap written_back (sym e ∙ part_filled.count))
+  pub part_done : IsOk r
+  part_done = rw part_filled.count refl
 
-  pub part_count : (many : ℕ) → r ≡ Bytes many → many ≤ 27
+  pub part_count : (many : ℕ) → r ≡ Ok many → many ≤ 27
   part_count many e =
-      let same : done many ≡ done (length part_filled.bytes) = ap written_back (sym e ∙ part_filled.count) in
+      let same : done many ≡ done (length part_filled.bytes) = ap back (sym e ∙ part_filled.count) in
       omega (arith, done_same same, runs_long part_filled.run, ended_few ended)
 
-  pub part_served : (many : ℕ) → r ≡ Bytes many → ServedAt n ws ws' work work' (ended_back ended) out (put_mid at (at + 27 - at) out part) at (at + many)
+  pub part_served : (many : ℕ) → r ≡ Ok many → ServedAt n ws ws' work work' (ended_back ended) out (put_mid at (at + 27 - at) out part) at (at + many)
   part_served many e =
       let f = part_filled in
-      let same : many ≡ length f.bytes = done_same (ap written_back (sym e ∙ f.count)) in
+      let same : many ≡ length f.bytes = done_same (ap back (sym e ∙ f.count)) in
       let few : length f.bytes ≤ 27 = omega (arith, runs_long f.run, ended_few ended) in
       record {
         bytes = f.bytes;
@@ -258,7 +172,7 @@ module _ (n : ℕ) (ws ws' work work' : List ℕ) (ended : Ended) (out part : Li
           let m = length bytes in
           let k : at + 27 - at ≡ m + (27 - m) = omega arith in
           let back : at + m + (27 - m) ≡ at + 27 = omega arith in
-          let cut : drop m (take (m + (27 - m)) (drop at out)) ≡ take (27 - m) (drop (at + m) out) = drop_take m (27 - m) (drop at out) ∙ ap (take (27 - m)) (drop-drop m at out) in
+          let cut : drop m (take (m + (27 - m)) (drop at out)) ≡ take (27 - m) (drop (at + m) out) = drop-take m (27 - m) (drop at out) ∙ ap (take (27 - m)) (drop-drop m at out) in
           append_assoc bytes (drop m (mid_of at (at + 27 - at) out)) (drop (at + 27) out)
           ∙ ap (λ (z : List ℕ). bytes ++ z)
           (ap (λ (n : ℕ). drop m (take n (drop at out)) ++ drop (at + 27) out) k ∙ ap (λ (z : List ℕ). z ++ drop (at + 27) out) cut

@@ -8,8 +8,8 @@ use native.Mathlib.Decide.{dec_lt}
 use lib.ListN.{length, drop}
 use Rattle.frames.specs.Answers.{Back}
 use Rattle.frames.specs.declared.Order.{Order}
-use Rattle.frames.specs.declared.Written.{Written}
-use Rattle.frames.specs.declared.Written.TheVariants.{Bytes}
+use Rattle.frames.specs.declared.NotAFrame.{NotAFrame}
+use Rattle.std.specs.Prelude.{Result, Ok}
 use Rattle.lines.specs.Lines.{between, orders_of}
 use Rattle.lines.specs.Cutter.{kept_after, orders_from, orders_of_pieces}
 use Rattle.lines.proofs.Pieces.{any_pieces}
@@ -43,12 +43,12 @@ same_answers {n} {ws} {ws₂ = ws₂} {area = area} {area₁ = area₁} {ys = ys
 -- ---- the contracts determine what comes back, the bytes and the queue
 
 -- the same answer, the same bytes of the whole buffer, and arrays that no call can tell apart
-pub record Agree (ws vs out out' : List ℕ) (r s : Written) : Type 0 where
+pub record Agree (ws vs out out' : List ℕ) (r s : Result ℕ NotAFrame) : Type 0 where
   pub answers : r ≡ s
   pub buffers : out ≡ out'
   pub alike : Alike (lent_of ws) (lent_of vs)
 
-pub served_agrees : {n : ℕ} {ws ws₁ ws₂ work work₁ area area₁ : List ℕ} {reads : List (Back Order)} {out out₁ out₂ : List ℕ} {r s : Written}
+pub served_agrees : {n : ℕ} {ws ws₁ ws₂ work work₁ area area₁ : List ℕ} {reads : List (Back Order)} {out out₁ out₂ : List ℕ} {r s : Result ℕ NotAFrame}
     → Served n ws ws₁ work work₁ reads out out₁ r → Served n ws ws₂ area area₁ reads out out₂ s → Agree ws₁ ws₂ out₁ out₂ r s
 served_agrees {ws = ws} {ws₂ = ws₂} {reads = reads} {out = out} one two =
     elim (dec_lt (length out) (27 * length reads)) [
@@ -65,7 +65,7 @@ served_agrees {ws = ws} {ws₂ = ws₂} {reads = reads} {out = out} one two =
           let y = two.room (omega arith) in
           let z = runs_alike x.run y.run (self ws) in
           record {
-            answers = x.count ∙ ap (λ (l : List ℕ). Bytes (length l)) z.bytes ∙ sym y.count;
+            answers = x.count ∙ ap (λ (l : List ℕ). Ok (length l)) z.bytes ∙ sym y.count;
             buffers = x.after ∙ ap (λ (l : List ℕ). l ++ drop (length l) out) z.bytes ∙ sym y.after;
             alike = z.alike;
           }

@@ -3,7 +3,7 @@ use Rattle.std.specs.Prelude.{◌≡◌, List, [], ◌∷◌, ◌++◌, ℕ, ◌
 use Rattle.rules.specs.Book.{sound}
 use Rattle.rules.specs.Calls as rules
 use Rattle.lines.specs.Cutter.{kept_after, orders_from, last_of}
-use Rattle.frames.specs.declared.Written.TheVariants.{Bytes}
+use Rattle.std.specs.Prelude.{Ok}
 use Rattle.sessions.specs.Runs.{Runs, Served, PieceRan}
 
 -- pieces one after the other, then the last line; k is what is kept of the line so far
@@ -20,7 +20,7 @@ pub data PieceFed (piece : List ℕ) : List ℕ → List ℕ → List ℕ → �
 
 -- pieces one after the other, then a call of `finish`, which had room for its answer
 pub data Fed : List ℕ → List ℕ → List ℕ → List (List ℕ) → List ℕ → List ℕ → List ℕ → Type 0 where
-  finish : (ws work k ws' work' out out' : List ℕ) (written : ℕ) → Served (length work) ws ws' work work' (last_of k) out out' (Bytes written) → Fed ws work k [] ws' work' (take written out')
+  finish : (ws work k ws' work' out out' : List ℕ) (written : ℕ) → Served (length work) ws ws' work work' (last_of k) out out' (Ok written) → Fed ws work k [] ws' work' (take written out')
   feed : (ws work k piece ws₁ work₁ k₁ ws' work' bytes more : List ℕ) (pieces : List (List ℕ)) → PieceFed piece ws work k 0 ws₁ work₁ k₁ bytes → Fed ws₁ work₁ k₁ pieces ws' work' more
       → Fed ws work k (piece ∷ pieces) ws' work' (bytes ++ more)
 

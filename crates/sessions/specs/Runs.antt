@@ -1,17 +1,15 @@
 -- Lines answered one after the other over a lent array: what each does, and the bytes that come out.
 use Rattle.std.specs.Prelude.{◌≡◌, ◌⊎◌, List, [], ◌∷◌, ◌++◌, ℕ, ◌+◌, ◌*◌, ◌≤◌, ◌<◌, length, take, drop}
-use Rattle.rules.specs.declared.Answer.{Answer}
-use Rattle.rules.specs.declared.Answer.TheVariants.{NotAFrame}
-use Rattle.rules.specs.Answers.{number_of}
+use Rattle.rules.specs.Answers.{Answer, NotAFrame, number_of}
 use Rattle.rules.specs.Calls as rules
 use Rattle.rules.specs.Examples as orders
-use Rattle.frames.specs.Answers.{Back}
+use Rattle.frames.specs.Answers.{Back, not_a_frame}
 use Rattle.frames.specs.AnswerLine.{answer_line}
 use Rattle.frames.specs.Entries.{word_of}
 use Rattle.frames.specs.declared.Order.{Order}
 use Rattle.frames.specs.declared.Order.TheVariants.{Setup, Insert, Take, Look, Held, Audit}
-use Rattle.frames.specs.declared.Written.{Written}
-use Rattle.frames.specs.declared.Written.TheVariants.{Bytes, Refused}
+use Rattle.frames.specs.declared.NotAFrame.{NotAFrame as NoFrame}
+use Rattle.std.specs.Prelude.{Result, Ok, Err}
 use Rattle.lines.specs.Lines.{between}
 use Rattle.lines.specs.Cutter.{kept_after, orders_from}
 use Rattle.buffers.specs.Format.{lent_of}
@@ -59,16 +57,16 @@ pub data Runs (n : ℕ) : List ℕ → List ℕ → List (Back Order) → List �
       → Runs n ws work (read ∷ reads) ws' work' (answer_of (line_call n read (lent_of ws)) ++ bytes)
 
 -- the answers stand at the start of a buffer, and no byte behind them has changed
-pub record Filled (n : ℕ) (ws ws' work work' : List ℕ) (reads : List (Back Order)) (out out' : List ℕ) (r : Written) : Type 0 where
+pub record Filled (n : ℕ) (ws ws' work work' : List ℕ) (reads : List (Back Order)) (out out' : List ℕ) (r : Result ℕ NoFrame) : Type 0 where
   pub bytes : List ℕ
   pub run : Runs n ws work reads ws' work' bytes
-  pub count : r ≡ Bytes (length bytes)
+  pub count : r ≡ Ok (length bytes)
   pub after : out' ≡ bytes ++ drop (length bytes) out
 
 -- where there is room; else nothing is done and nothing is written
-pub record Served (n : ℕ) (ws ws' work work' : List ℕ) (reads : List (Back Order)) (out out' : List ℕ) (r : Written) : Type 0 where
+pub record Served (n : ℕ) (ws ws' work work' : List ℕ) (reads : List (Back Order)) (out out' : List ℕ) (r : Result ℕ NoFrame) : Type 0 where
   pub room : 27 * length reads ≤ length out → Filled n ws ws' work work' reads out out' r
-  pub short : length out < 27 * length reads → (r ≡ Refused) × (ws' ≡ ws) × (work' ≡ work) × (out' ≡ out)
+  pub short : length out < 27 * length reads → (r ≡ Err not_a_frame) × (ws' ≡ ws) × (work' ≡ work) × (out' ≡ out)
 
 -- the answers stand in a buffer from one place to another, and no byte around them has changed
 pub record ServedAt (n : ℕ) (ws ws' work work' : List ℕ) (reads : List (Back Order)) (out out' : List ℕ) (at end : ℕ) : Type 0 where

@@ -1,38 +1,31 @@
 // Frames run over lent memory: one line in, one answer line out, the input in any pieces.
 #![tactic(auto)]
 
-ghost use Rattle.std.specs.Prelude.{[], ◌∷◌, ◌+◌, ◌≤◌, length};
+ghost use Rattle.std.specs.Prelude.{[], ◌∷◌, length};
 ghost use Rattle.frames.specs.Answers.{read_back};
 ghost use Rattle.lines.specs.Answers.{ended_back};
 ghost use Rattle.lines.specs.Cutter.{kept, last_of};
+ghost use Rattle.rules.specs.Answers.{answer_in};
 ghost use Rattle.buffers.specs.Format.{lent_of};
-ghost use Rattle.queue.specs.Calls.{Called, Besides};
-ghost use Rattle.sessions.specs.Runs.{asked, order_call, line_call, Left, Served, ServedAt, PieceRan, NoMore};
+ghost use Rattle.queue.specs.Calls.{Gives, Besides};
+ghost use Rattle.sessions.specs.Runs.{asked, order_call, line_call, Left, Served, PieceRan, NoMore};
 
-use frames::{Order, ReadFrame, Written};
+use frames::{ANSWER, NotAFrame, Order};
 use lines::{Cutter, Ended};
-use queue::Outcome;
-
-// The bytes of an answer line.
-const LINE: usize = 27;
+use rules::{Outcome, Refusal};
 
 // One more than the largest number that eight digits write.
-const EIGHT: u64 = 4294967296;
+const EIGHT: u64 = 1 << 32;
 
 // Does an order.
+#[tactic(auto, unfolding(crate::specs::Runs::order_call, rules::specs::Examples::call))]
 pub fn perform(a: &mut [u64], work: &mut [u64], order: Order) -> Outcome
-    ensures called { Called a.old a.new (order_call (length work.old) order (lent_of a.old)) result.answer result.word result.steps result.packed }
-    ensures besides { Besides (asked order) a.old a.new work.old work.new result.answer }
+    ensures called { Gives a.old a.new (order_call (length work.old) order (lent_of a.old)) result }
+    ensures besides { Besides (asked order) a.old a.new work.old work.new (answer_in result) }
 {
     match order {
-        Order::Setup(links) => {
-            let n = links as u64;
-            queue::setup(a, n)
-        }
-        Order::Insert(entry) => {
-            let word = frames::word_of(entry);
-            queue::insert(a, work, word)
-        }
+        Order::Setup(links) => queue::setup(a, u64::from(links)),
+        Order::Insert(entry) => queue::insert(a, work, u64::from(entry)),
         Order::Take => queue::take(a),
         Order::Look => queue::look(a),
         Order::Held => queue::held(a),
@@ -41,59 +34,52 @@ pub fn perform(a: &mut [u64], work: &mut [u64], order: Order) -> Outcome
 }
 
 // Does what a line says; a line that is no frame changes nothing and is answered 10.
-pub fn perform_line(a: &mut [u64], work: &mut [u64], read: ReadFrame) -> Outcome
-    ensures called { Called a.old a.new (line_call (length work.old) (read_back read) (lent_of a.old)) result.answer result.word result.steps result.packed }
-    ensures left { Left (read_back read).values a.old a.new work.old work.new result.answer }
+#[tactic(auto, unfolding(crate::specs::Runs::values_call))]
+pub fn perform_line(a: &mut [u64], work: &mut [u64], read: Result<Order, NotAFrame>) -> Outcome
+    ensures called { Gives a.old a.new (line_call (length work.old) (read_back read) (lent_of a.old)) result }
+    ensures left { Left (read_back read).values a.old a.new work.old work.new (answer_in result) }
 {
     match read {
-        ReadFrame::Order(order) => perform(a, work, order),
-        ReadFrame::NotAFrame => Outcome {
-            answer: rules::Answer::NotAFrame,
-            word: 0,
-            steps: 0,
-            packed: false,
-        },
+        Ok(order) => perform(a, work, order),
+        Err(NotAFrame) => Err(Refusal::NotAFrame),
     }
 }
 
 // Answers a line at the start of a buffer; where there is no room for the answer nothing is done.
-pub fn answer(a: &mut [u64], work: &mut [u64], read: ReadFrame, out: &mut [u8]) -> Written
+pub fn answer(
+    a: &mut [u64],
+    work: &mut [u64],
+    read: Result<Order, NotAFrame>,
+    out: &mut [u8],
+) -> Result<usize, NotAFrame>
     ensures { Served (length work.old) a.old a.new work.old work.new (read_back read ∷ []) out.old out.new result }
 {
-    if out.len() < LINE {
-        return Written::Refused;
+    if out.len() < ANSWER {
+        return Err(NotAFrame);
     }
-    let done = perform_line(a, work, read);
-    let found = done.answer;
-    let number = rules::number_of(found);
+    let outcome = perform_line(a, work, read);
+    let done = outcome.unwrap_or_default();
     let steps = (done.steps % EIGHT) as u32;
-    frames::answer_line(number, done.word, steps, out)
+    frames::answer_line(rules::number_of(outcome), done.word, steps, out)
 }
 
 // The same for a line that may have ended.
-fn answer_ended(a: &mut [u64], work: &mut [u64], ended: Ended, out: &mut [u8]) -> Written
+fn answer_ended(
+    a: &mut [u64],
+    work: &mut [u64],
+    ended: Ended,
+    out: &mut [u8],
+) -> Result<usize, NotAFrame>
     ensures { Served (length work.old) a.old a.new work.old work.new (ended_back ended) out.old out.new result }
 {
     match ended {
-        Ended::Line(read) => answer(a, work, read, out),
-        Ended::Nothing => Written::Bytes(0),
-    }
-}
-
-// The same from a place of the buffer on; answers the place behind what it wrote.
-fn answer_at(a: &mut [u64], work: &mut [u64], ended: Ended, out: &mut [u8], at: usize) -> usize
-    requires { at + 27 ≤ length out.old }
-    ensures { ServedAt (length work.old) a.old a.new work.old work.new (ended_back ended) out.old out.new at result }
-{
-    let end = at + LINE;
-    match answer_ended(a, work, ended, &mut out[at..end]) {
-        Written::Bytes(n) => at + n,
-        Written::Refused => at,
+        Some(read) => answer(a, work, read, out),
+        None => Ok(0),
     }
 }
 
 // at is the place behind the last byte that was read, written how many bytes of answers were written.
-#[derive(Clone, Copy)]
+#[derive(Clone, Copy, Debug)]
 pub struct Ran {
     pub cutter: Cutter,
     pub at: usize,
@@ -112,30 +98,31 @@ pub fn run_piece(
     ensures piece_ran { PieceRan (length work.old) a.old a.new work.old work.new (kept cutter) piece.now at out.old out.new (kept result.cutter) result.at result.written }
     ensures no_more { NoMore piece.now result.at out.old result.written }
 {
-    let mut so_far = cutter;
-    let mut i = at;
-    let mut written: usize = 0;
-    while i < piece.len() {
-        if out.len() - written < LINE {
-            break;
-        }
-        let next = lines::next_line(so_far, piece, i);
-        so_far = next.cutter;
-        i = next.at;
-        let ended = next.ended;
-        written = answer_at(a, work, ended, out, written);
+    let mut ran = Ran {
+        cutter,
+        at,
+        written: 0,
+    };
+    while ran.at < piece.len() && ANSWER <= out.len() - ran.written {
+        let next = ran.cutter.next_line(piece, ran.at);
+        let room = &mut out[ran.written..ran.written + ANSWER];
+        ran = Ran {
+            cutter: next.cutter,
+            at: next.at,
+            written: ran.written + answer_ended(a, work, next.ended, room).unwrap(),
+        };
     }
-    Ran {
-        cutter: so_far,
-        at: i,
-        written,
-    }
+    ran
 }
 
 // Answers the last line, which counts if it has at least one byte.
-pub fn finish(a: &mut [u64], work: &mut [u64], cutter: Cutter, out: &mut [u8]) -> Written
+pub fn finish(
+    a: &mut [u64],
+    work: &mut [u64],
+    cutter: Cutter,
+    out: &mut [u8],
+) -> Result<usize, NotAFrame>
     ensures { Served (length work.old) a.old a.new work.old work.new (last_of (kept cutter)) out.old out.new result }
 {
-    let ended = lines::finish(cutter);
-    answer_ended(a, work, ended, out)
+    answer_ended(a, work, cutter.finish(), out)
 }
