@@ -7,9 +7,7 @@ use mathlib.Core.List.{List}
 use native.Mathlib.Omega.{arith}
 use native.Mathlib.Decide.{dec_lt}
 use lib.Dec.{T, eqb}
-use Rattle.rules.specs.declared.Answer.{Answer}
-use Rattle.rules.specs.declared.Answer.TheVariants.{Done, WorkShort, Full, NoneHeld, DoorAbove}
-use Rattle.rules.specs.Answers.{is_done}
+use Rattle.rules.specs.Answers.{Answer, Done, WorkShort, Full, NoneHeld, DoorAbove, is_done}
 use Rattle.rules.specs.Entries.{door}
 use Rattle.rules.specs.Links.{most_links, most, words}
 use Rattle.rules.specs.Tree.{tree_of}

@@ -7,9 +7,7 @@ use native.Mathlib.Omega.{arith}
 use borrow.Author.Tests.{eq-eqb}
 use lib.Dec.{T, T_not, eqb}
 use lib.ListN.{length}
-use Rattle.rules.specs.declared.Answer.{Answer}
-use Rattle.rules.specs.declared.Answer.TheVariants.{Done}
-use Rattle.rules.specs.Answers.{is_done}
+use Rattle.rules.specs.Answers.{Answer, Done, is_done}
 use Rattle.rules.specs.Links.{words}
 use Rattle.rules.specs.Book.{is_link_number}
 use Rattle.rules.specs.Tree.{tree_of}

@@ -5,9 +5,7 @@ use mathlib.Core.Logic.{◌⊎◌, ◌≢◌}
 use mathlib.Core.Bool.{Bool, true, false}
 use mathlib.Core.List.{List, [], ◌∷◌, ◌++◌, flatten}
 use lib.ListN.{length, get_or, take, drop}
-use Rattle.rules.specs.declared.Answer.{Answer}
-use Rattle.rules.specs.declared.Answer.TheVariants.{Done, NoneHeld}
-use Rattle.rules.specs.Answers.{number_of}
+use Rattle.rules.specs.Answers.{Answer, Done, NoneHeld, number_of}
 use Rattle.rules.specs.Entries.{door}
 use Rattle.rules.specs.Links.{s, most_links, most, words}
 use Rattle.rules.specs.Queue.{held}
@@ -32,10 +30,8 @@ use Rattle.sessions.specs.Pieces.{Session, Fed}
 use Rattle.sessions.proofs.FedLaws.{fed_session}
 use Rattle.frames.specs.Orders.{Fits}
 use Rattle.frames.specs.declared.Order.{Order}
-use Rattle.frames.specs.declared.ReadFrame.{ReadFrame}
-use Rattle.frames.specs.declared.ReadFrame.TheVariants.{Order as Read}
-use Rattle.frames.specs.declared.Written.{Written}
-use Rattle.frames.specs.declared.Written.TheVariants.{Bytes}
+use Rattle.frames.specs.declared.NotAFrame.{NotAFrame}
+use Rattle.std.specs.Prelude.{Result, Ok}
 use Rattle.demands.specs.Histories.{Call, Made, accepted, MadeSame, History, Sequence, has_setup, from_setup, since, links, put_in, taken_out, inserts, takes, packings, steps, times, StillHeld, Smallest}
 use Rattle.demands.specs.Exact.{Answers}
 use Rattle.demands.specs.Tallies.{tally_after, sums}
@@ -211,11 +207,11 @@ module _ {ws : List ℕ} (cs : List Call) (h : History cs ws) where
   held_at_most = answers.at_most h
 
 -- "A frame written and read again is the same frame, and the reverse."
-pub frame_read_again : (o : Order) (out out' : List ℕ) (n : ℕ) (r : ReadFrame) → Fits o → Writes o out out' (Bytes n) → Reads (take n out') r → r ≡ Read o
+pub frame_read_again : (o : Order) (out out' : List ℕ) (n : ℕ) (r : Result Order NotAFrame) → Fits o → Writes o out out' (Ok n) → Reads (take n out') r → r ≡ Ok o
 frame_read_again = read_back_lem
 
-pub frame_written_again : (line : List ℕ) (o : Order) (out out' : List ℕ) (r : Written) → Reads line (Read o) → length line ≤ length out → Writes o out out' r
-    → (r ≡ Bytes (length line)) × (out' ≡ line ++ drop (length line) out)
+pub frame_written_again : (line : List ℕ) (o : Order) (out out' : List ℕ) (r : Result ℕ NotAFrame) → Reads line (Ok o) → length line ≤ length out → Writes o out out' r
+    → (r ≡ Ok (length line)) × (out' ≡ line ++ drop (length line) out)
 frame_written_again = write_back
 
 -- ---- demand 3

@@ -8,8 +8,7 @@ use native.Mathlib.Omega.{arith}
 use lib.Dec.{T, eqb, eqb→eq}
 use lib.ListN.{length, get_or, take, replicate, length-append, length-take, length-replicate, get_or-eq_default, get_or-append, get_or-replicate}
 use lib.Seq.{get_or-append-add}
-use Rattle.rules.specs.declared.Answer.{Answer}
-use Rattle.rules.specs.Answers.{is_done}
+use Rattle.rules.specs.Answers.{Answer, is_done}
 use Rattle.rules.specs.Links.{book_words, buffer_count, words}
 use Rattle.rules.specs.Tests.{◌and◌, ◌implies◌}
 use Rattle.rules.specs.Queue.{Queue, counter}
@@ -25,7 +24,7 @@ use Rattle.buffers.specs.Format.{book_of, lent_of}
 use Rattle.buffers.specs.Post.{Unused}
 use Rattle.queue.specs.Calls.{Called, SlotsKept, Besides}
 use Rattle.queue.proofs.CheckLaws.{unlike}
-use Rattle.demands.specs.Histories.{Call, Made, History, first, next, inserts}
+use Rattle.demands.specs.Histories.{Call, Made, History, first, next}
 use Rattle.demands.specs.Existence.{Exists}
 use Rattle.demands.proofs.MadeLaws.{called}
 

@@ -6,8 +6,7 @@ use mathlib.Core.List.{List, [], ◌∷◌, ◌++◌}
 use native.Mathlib.Omega.{arith}
 use lib.Dec.{T}
 use lib.ListN.{length}
-use Rattle.rules.specs.declared.Answer.{Answer}
-use Rattle.rules.specs.Answers.{is_done}
+use Rattle.rules.specs.Answers.{Answer, is_done}
 use Rattle.rules.specs.Links.{words}
 use Rattle.rules.specs.Tests.{◌and◌}
 use Rattle.rules.specs.Queue.{Queue}

@@ -12,7 +12,7 @@ use Rattle.frames.specs.Orders.{code_of, width_of, body_of, frame_of, writable}
 use Rattle.frames.specs.Frames.{read_of}
 use Rattle.frames.specs.Lines.{lays, Laid}
 use Rattle.frames.specs.declared.Order.{Order}
-use Rattle.frames.specs.declared.Written.TheVariants.{Bytes}
+use Rattle.std.specs.Prelude.{Ok}
 use Rattle.frames.proofs.OrderLaws.{Says, Settled, order, none, either, order_settled}
 use Rattle.frames.proofs.FrameLaws.{read_settled}
 use Rattle.frames.proofs.RoundTrip.{write_after_read, read_writable, written_is_read}
@@ -25,10 +25,10 @@ unfolding asked
 asked_settled kind value = either (ltb value (16 ^ width_of kind)) (order_settled kind value) none
 
 -- the number 0 says that the line was laid
-zero_laid : (may : Bool) (line out out' : List ℕ) (n : ℕ) → Lined may line out out' 0 n → Laid may line out out' (Bytes n)
+zero_laid : (may : Bool) (line out out' : List ℕ) (n : ℕ) → Lined may line out out' 0 n → Laid may line out out' (Ok n)
 zero_laid may line out out' n wrote = go (lays may line out) refl
   where
-    go : (t : Bool) → lays may line out ≡ t → Laid may line out out' (Bytes n)
+    go : (t : Bool) → lays may line out ≡ t → Laid may line out out' (Ok n)
     go true e = record { answer = rw e (ap done (wrote.written_is ∙ rw e refl)); after = wrote.after }
     go false e = let z : ◌≡◌ {A = ℕ} 0 10 = wrote.number_is ∙ rw e refl in absurd (omega arith)
 
@@ -40,7 +40,7 @@ library_read_back kind value out out' n number kind' value' wrote reads = go (as
     go : (b : Back Order) → Settled b → asked kind value ≡ b → (number ≡ 0) × (kind' ≡ kind) × (value' ≡ value)
     go b (order o) e =
         let says : Says kind value o = asked_says kind value o e in
-        let laid : Laid (writable o) (frame_of o) out out' (Bytes n) = zero_laid (writable o) (frame_of o) out out' n (rw e at wrote) in
+        let laid : Laid (writable o) (frame_of o) out out' (Ok n) = zero_laid (writable o) (frame_of o) out out' n (rw e at wrote) in
         let read : read_of (take n out') ≡ done o = written_is_read o out out' n says.fits laid in
         (reads.number_is ∙ rw read refl, reads.kind_is ∙ rw read says.code, reads.value_is ∙ rw read says.body)
     go b none e = let z : ◌≡◌ {A = ℕ} 0 10 = wrote.number_is ∙ rw e refl in absurd (omega arith)

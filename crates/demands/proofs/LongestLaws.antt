@@ -5,7 +5,7 @@ use mathlib.Core.Logic.{◌⊎◌, inl, inr}
 use mathlib.Core.List.{List}
 use native.Mathlib.Omega.{arith}
 use lib.Dec.{T, lit≤}
-use Rattle.rules.specs.declared.Answer.{Answer}
+use Rattle.rules.specs.Answers.{Answer}
 use Rattle.rules.specs.Longest.{longest_take, longest_insert, longest_call}
 use Rattle.rules.specs.Book.{is_link_number, sound}
 use Rattle.rules.specs.Calls.{Lent, Outcome, queue_of, refused}

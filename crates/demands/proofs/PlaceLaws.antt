@@ -6,7 +6,7 @@ use mathlib.Core.List.{List}
 use native.Mathlib.Omega.{arith}
 use lib.Dec.{T}
 use lib.ListN.{length}
-use Rattle.rules.specs.declared.Answer.TheVariants.{Done}
+use Rattle.rules.specs.Answers.{Done}
 use Rattle.rules.specs.Links.{most, words}
 use Rattle.rules.specs.Queue.{held}
 use Rattle.rules.specs.Insert.{entered}

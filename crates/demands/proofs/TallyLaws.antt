@@ -15,7 +15,7 @@ use Rattle.tally.specs.Day as tally
 use Rattle.tally.specs.Sums.{Within}
 use Rattle.tally.specs.Told.{call_of}
 use Rattle.queue.proofs.AgreeLaws.{the_answer}
-use Rattle.demands.specs.Histories.{Call, Made, accepted, begins, History, first, next, since, brought, handed, if_done, put_in, taken_out, inserts, takes, once, packings, steps, between}
+use Rattle.demands.specs.Histories.{Call, Made, accepted, begins, History, first, next, since, brought, handed, if_done, put_in, taken_out, once, between}
 use Rattle.demands.specs.Tallies.{told_of, tally_after, sums}
 use Rattle.demands.proofs.CallLaws.{refusal_plain, setup_steps, setup_unpacked, take_unpacked, look_unpacked, held_unpacked, audit_unpacked}
 

@@ -7,12 +7,11 @@ use native.Mathlib.Omega.{arith}
 use native.Mathlib.Decide.{ℕ_discrete}
 use lib.ListN.{length, take, drop}
 use lib.Seq.{take_at, drop_at}
-use Rattle.rules.specs.declared.Answer.TheVariants.{NotAFrame}
-use Rattle.rules.specs.Answers.{number_of, answer_of, is_done}
+use Rattle.rules.specs.Answers.{NotAFrame, number_of, answer_of, is_done}
 use Rattle.rules.specs.Calls as rules
 use Rattle.rules.specs.Examples as orders
 use Rattle.rules.proofs.AnswerLaws.{answer_again, answer_few, same_number}
-use Rattle.frames.specs.Answers.{Back, refused}
+use Rattle.frames.specs.Answers.{Back}
 use Rattle.frames.specs.AnswerLine.{answer_line}
 use Rattle.frames.specs.Digits.{number, digits}
 use Rattle.frames.specs.Frames.{read_of}

@@ -10,7 +10,7 @@ use lib.ListN.{length}
 use Rattle.rules.specs.Answers.{is_done}
 use Rattle.rules.specs.Links.{from, book_words, buffer_count, words, LinkNumber}
 use Rattle.rules.specs.Book.{is_link_number, sound}
-use Rattle.rules.specs.Calls.{Outcome, refused, queue_of}
+use Rattle.rules.specs.Calls.{Outcome, queue_of}
 use Rattle.rules.specs.Examples.{Order, call}
 use Rattle.rules.specs.Tests.{every}
 use Rattle.rules.proofs.Tests.{truth}

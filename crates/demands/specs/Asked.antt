@@ -1,6 +1,6 @@
 -- Demands 2 and 3 and how long a call can run, asked of a list of calls, the latest first, by what was ordered, lent and answered: of calls that were made, of those that a session's lines tell, of those by the library.
 use Rattle.std.specs.Prelude.{ℕ, ◌+◌, ◌/◌, ◌≤◌, ◌<◌, ◌≡◌, true, false, List, ◌∷◌, ◌++◌}
-use Rattle.rules.specs.declared.Answer.TheVariants.{Done, WorkShort, Full, NoneHeld, DoorAbove}
+use Rattle.rules.specs.Answers.{Done, WorkShort, Full, NoneHeld, DoorAbove}
 use Rattle.rules.specs.Entries.{door}
 use Rattle.rules.specs.Links.{s, most_links, most}
 use Rattle.rules.specs.Bounds.{steps_bound}

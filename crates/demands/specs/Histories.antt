@@ -1,7 +1,6 @@
 -- Histories of calls on one array, and what has happened since the last accepted setup.
 use Rattle.std.specs.Prelude.{ℕ, ◌+◌, ◌≤◌, ◌<◌, ◌≡◌, Bool, true, false, List, [], ◌∷◌, ◌++◌, eqb, length}
-use Rattle.rules.specs.declared.Answer.{Answer}
-use Rattle.rules.specs.Answers.{is_done}
+use Rattle.rules.specs.Answers.{Answer, is_done}
 use Rattle.rules.specs.Entries.{the_rule, key_by}
 use Rattle.rules.specs.Tests.{◌and◌, ◌or◌}
 use Rattle.rules.specs.Examples.{Order, setup_of, insert_of, take_it, look_at, held_now, audit_it, call}

@@ -1,6 +1,6 @@
 -- The day tally over the calls of a history.
 use Rattle.std.specs.Prelude.{List, [], ◌∷◌}
-use Rattle.tally.specs.declared.Outcome.{Outcome}
+use Rattle.tally.specs.Day.{Outcome}
 use Rattle.tally.specs.declared.Tally.{Tally}
 use Rattle.tally.specs.Day.{tally_of, nothing, up_to_date}
 use Rattle.tally.specs.Told.{call_of}

@@ -1,8 +1,6 @@
 -- What a session tells those at the gate: its lines, and the lines that answered them; beside them only the length of the work area is looked at.
 use Rattle.std.specs.Prelude.{ℕ, ◌<◌, ◌≡◌, refl, false, List, [], ◌∷◌, ◌++◌, map, take, drop}
-use Rattle.rules.specs.declared.Answer.{Answer}
-use Rattle.rules.specs.declared.Answer.TheVariants.{Done, NoneHeld, DoorAbove}
-use Rattle.rules.specs.Answers.{answer_of}
+use Rattle.rules.specs.Answers.{Answer, Done, NoneHeld, DoorAbove, answer_of}
 use Rattle.rules.specs.Examples as orders
 use Rattle.frames.specs.Answers.{Back}
 use Rattle.frames.specs.AnswerLine.{answer_line}

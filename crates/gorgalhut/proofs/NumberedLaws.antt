@@ -1,20 +1,24 @@
 -- Calls and answers by their numbers.
-use mathlib.Core.Path.{◌≡◌, refl, ap}
+use mathlib.Core.Path.{◌≡◌, refl, sym, ap, ◌∙◌}
 use mathlib.Core.Logic.{◌≢◌}
 use mathlib.Core.Bool.{Bool, true, false}
 use Prim.Native.Nat.{ℕ, ◌≤◌, ◌<◌}
 use native.Mathlib.Omega.{arith}
 use native.Mathlib.Decide.{dec_lt}
 use borrow.Author.Tests.{le-leb, lt-leb, eq-eqb, ne_eqb}
-use Rattle.rules.specs.declared.Answer.{Answer}
-use Rattle.rules.specs.Answers.{number_of, answer_of}
+use Rattle.std.specs.Prelude.{Result}
+use Rattle.rules.specs.declared.Refusal.{Refusal}
+use Rattle.rules.specs.declared.Refusal.TheVariants as refusal
+use Rattle.rules.specs.declared.Done as code
+use Rattle.rules.specs.Answers.{Answer, Done, NoSuchLinks, ArrayShort, WorkShort, BookBroken, Full, NoneHeld, DoorAbove, OrderBroken, NotAFrame, number_of, answer_of, answer_as}
 use Rattle.rules.proofs.AnswerLaws.{answer_again}
 use Rattle.tally.specs.declared.Call.{Call}
 use Rattle.tally.specs.declared.Call.TheVariants.{Setup, Insert, Take, Look, Held, Audit}
-use Rattle.tally.specs.declared.Outcome.{Outcome}
 use Rattle.tally.specs.declared.Tally.{Tally}
-use Rattle.tally.specs.Day.{up_to_date}
-use Rattle.gorgalhut.specs.Numbered.{call_of, call_number, named, tallied}
+use Rattle.tally.specs.Day.{Outcome, up_to_date}
+use Rattle.tally.specs.Told.{call_number, told_in, told_by}
+use Rattle.tally.proofs.DayLaws.{all_told}
+use Rattle.gorgalhut.specs.Numbered.{call_of, named, tallied}
 
 pub call_again : (c : Call) → call_of (call_number c) ≡ c
 unfolding call_of
@@ -25,7 +29,7 @@ call_again Look = refl
 call_again Held = refl
 call_again Audit = refl
 
-call_few : (c : Call) → call_number c ≤ 5
+pub call_few : (c : Call) → call_number c ≤ 5
 call_few Setup = omega arith
 call_few Insert = omega arith
 call_few Take = omega arith
@@ -52,9 +56,17 @@ module _ (tally : Tally) (call answer steps : ℕ) (packed : Bool) where
   unfolding tallied
   tallied_none e = rw e refl
 
-  pub tallied_added : (after : Tally) (c : Call) (a : Answer) → call ≤ 5 → number_of (answer_of answer) ≡ answer → c ≡ call_of call → a ≡ answer_of answer
-      → after ≡ up_to_date tally c (record { answer = a; steps = steps; packed = packed }) → after ≡ tallied tally call answer steps packed
-  tallied_added after c a p q e f g = rw (tallied_named (both_named call answer p q), ← e, ← f) g
+  pub call_told : (c : Call) → call_number c ≡ call → number_of (answer_of answer) ≡ answer → named call answer ≡ true
+  call_told c p q = both_named call answer (omega (arith, call_few c, p)) q
+
+  -- the call c is told by the result o
+  pub tallied_told : {after : Tally} {o : Result code.Done Refusal} (c : Call) → call_number c ≡ call → number_of (answer_of answer) ≡ answer → o ≡ told_by (answer_of answer) steps packed
+      → after ≡ up_to_date tally c (told_in o) → after ≡ tallied tally call answer steps packed
+  tallied_told {after} {o} c p q e f =
+      let told : after ≡ up_to_date tally (call_of call) (record { answer = answer_of answer; steps = steps; packed = packed }) =
+      f ∙ ap (λ o. up_to_date tally c (told_in o)) e ∙ all_told tally c (answer_of answer) steps packed
+      ∙ ap (λ c. up_to_date tally c (record { answer = answer_of answer; steps = steps; packed = packed })) (sym (call_again c) ∙ ap call_of p) in
+      told ∙ sym (tallied_named (call_told c p q))
 
 -- a number that no answer has means nothing: it is told so, and nothing is added
 pub means_nothing : (number : ℕ) → ((a : Answer) → number_of a ≢ number) → (tally : Tally) (call steps : ℕ) (packed : Bool)
@@ -71,3 +83,16 @@ means_nothing number none tally call steps packed =
 pub tallied_call : (tally : Tally) (c : Call) (o : Outcome) → tallied tally (call_number c) (number_of o.answer) o.steps o.packed ≡ up_to_date tally c o
 unfolding tallied
 tallied_call tally c o = rw (both_named (call_number c) (number_of o.answer) (call_few c) (ap number_of (answer_again o.answer)), call_again c, answer_again o.answer) refl
+
+-- a number that is not 0 and that no refusal has, no answer has
+pub none_has : (n : ℕ) → n ≢ 0 → ((r : Refusal) → number_of (answer_as r) ≢ n) → (a : Answer) → number_of a ≢ n
+none_has n some none Done e = some (sym e)
+none_has n some none NoSuchLinks e = none refusal.NoSuchLinks e
+none_has n some none ArrayShort e = none refusal.ArrayShort e
+none_has n some none WorkShort e = none refusal.WorkShort e
+none_has n some none BookBroken e = none refusal.BookBroken e
+none_has n some none Full e = none refusal.Full e
+none_has n some none NoneHeld e = none refusal.NoneHeld e
+none_has n some none DoorAbove e = none refusal.DoorAbove e
+none_has n some none OrderBroken e = none refusal.OrderBroken e
+none_has n some none NotAFrame e = none refusal.NotAFrame e

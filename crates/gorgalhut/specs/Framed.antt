@@ -29,6 +29,11 @@ abbrev pub line_in : List Order → List ℕ
 line_in [] = []
 line_in (o ∷ _) = frame_of o
 
+-- how many bytes were written, and 0 where none were
+abbrev pub bytes_in : List ℕ → ℕ
+bytes_in [] = 0
+bytes_in (n ∷ _) = n
+
 -- the number that comes back, how many bytes were written, and what then stands in the buffer: "changes no byte after them", or "answers 10 and writes nothing"
 pub record Lined (may : Bool) (line out out' : List ℕ) (number written : ℕ) : Type 0 where
   pub number_is : number ≡ cond (lays may line out) 0 10

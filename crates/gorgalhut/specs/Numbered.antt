@@ -1,7 +1,11 @@
 -- Calls and answers by their numbers, for the day tally.
-use Rattle.std.specs.Prelude.{ℕ, zero, suc, ◌≡◌, refl, Bool, cond, List, [], ◌∷◌, ◌++◌, eqb, leb}
+use Rattle.std.specs.Prelude.{ℕ, zero, suc, ◌≡◌, ◌≢◌, refl, Bool, cond, List, [], ◌∷◌, ◌++◌, eqb, leb, Result, MatchResult}
 use Rattle.rules.specs.Tests.{◌and◌}
 use Rattle.rules.specs.Answers.{number_of, answer_of}
+use Rattle.rules.specs.declared.Refusal.{Refusal}
+use Rattle.rules.specs.declared.NoRefusal.{NoRefusal}
+use Rattle.rules.specs.declared.Done.{Done}
+use Rattle.tally.specs.Told.{told_by}
 use Rattle.tally.specs.declared.Call.{Call}
 use Rattle.tally.specs.declared.Call.TheVariants.{Setup, Insert, Take, Look, Held, Audit}
 use Rattle.tally.specs.declared.Tally.{Tally}
@@ -16,14 +20,6 @@ call_of n =
     (cond (eqb n 3) Look
     (cond (eqb n 4) Held
     Audit))))
-
-abbrev pub call_number : Call → ℕ
-call_number Setup = 0
-call_number Insert = 1
-call_number Take = 2
-call_number Look = 3
-call_number Held = 4
-call_number Audit = 5
 
 -- a call and an answer have these numbers: the answer that a number reads as has that very number
 abbrev pub named : ℕ → ℕ → Bool
@@ -44,3 +40,8 @@ named_bytes = refl
 unfoldable pub tallied : Tally → ℕ → ℕ → ℕ → Bool → Tally
 unfolding call_of answer_of up_to_date
 tallied tally call answer steps packed = cond (named call answer) (up_to_date tally (call_of call) (record { answer = answer_of answer; steps = steps; packed = packed })) tally
+
+-- the result that tells of the answer with this number, or no answer has it
+abbrev pub Meant : (answer steps : ℕ) → (packed : Bool) → Result (Result Done Refusal) NoRefusal → Type 0
+Meant answer steps packed r =
+    MatchResult r (λ o. (number_of (answer_of answer) ≡ answer) × (o ≡ told_by (answer_of answer) steps packed)) (λ e. number_of (answer_of answer) ≢ answer)

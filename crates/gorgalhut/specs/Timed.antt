@@ -1,14 +1,13 @@
 -- "a report gives for each byte the count, earliest, latest and sum of lateness, the count of exact hits and the lower median": six numbers a door, in one lent list.
 use Rattle.std.specs.Prelude.{cond, List, [], ◌∷◌, ◌++◌, ℕ, eqb, ltb, length, drop, ℤ, pos}
-use Rattle.lateness.specs.Reports.{answer_of, report_of}
+use Rattle.lateness.specs.Reports.{Answered, answer_of, report_of}
 use Rattle.lateness.specs.declared.Row.{Row}
-use Rattle.lateness.specs.declared.Report.{Report}
 
 abbrev pub numbers_of : Row → List ℤ
 numbers_of r = pos r.seen.count ∷ r.seen.earliest ∷ r.seen.latest ∷ r.seen.sum ∷ pos r.seen.exact ∷ r.median ∷ []
 
 -- in the order of their bytes: both, left, right
-abbrev pub report_numbers : Report → List ℤ
+abbrev pub report_numbers : Answered → List ℤ
 report_numbers r = numbers_of r.both ++ (numbers_of r.left ++ numbers_of r.right)
 
 -- 10 where fewer than eighteen numbers fit, and for lists of different lengths

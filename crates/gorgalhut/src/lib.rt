@@ -3,40 +3,49 @@
 
 ghost use Rattle.std.specs.Prelude.{◌≡◌, leb, length, ltb, ◌^◌, ◌++◌, ◌≤◌, drop};
 ghost use Rattle.rules.specs.Tests.{◌and◌};
-ghost use Rattle.rules.specs.Answers.{answer_of};
+ghost use Rattle.rules.specs.Answers.{number_of, answer_in, word_in, steps_in};
 ghost use Rattle.rules.specs.Book.{sound};
 ghost use Rattle.rules.specs.Links.{book_words};
 ghost use Rattle.buffers.specs.Format.{book_of};
 ghost use Rattle.tally.specs.Day.{tally_of};
-ghost use Rattle.frames.specs.Answers.{read_back};
+ghost use Rattle.frames.specs.Answers.{read_back, written_back};
+ghost use Rattle.frames.specs.Lines.{Laid};
 ghost use Rattle.frames.specs.AnswerLine.{answer_line};
 ghost use Rattle.gorgalhut.specs.Answered.{SetUp, PutIn, TakenOut, LookedAt, Counted, Audited};
-ghost use Rattle.gorgalhut.specs.Numbered.{call_of, named, tallied};
-ghost use Rattle.gorgalhut.specs.Framed.{asked, Lined, FrameRead, FrameWritten};
+ghost use Rattle.gorgalhut.specs.Numbered.{Meant, named, tallied};
+ghost use Rattle.gorgalhut.specs.Framed.{asked, may_in, line_in, bytes_in, Lined, FrameRead, FrameWritten};
 ghost use Rattle.lateness.specs.Reports.{Small};
 ghost use Rattle.gorgalhut.specs.Timed.{numbers_of, timed_answer, timed_report};
 
-use rules::Link;
+use frames::{NotAFrame, Order};
+use lateness::Row;
+use rules::{Done, Link, NoRefusal, Outcome, Refusal};
+use tally::{Call, Tally};
 
 // Whether the array has a book and the book keeps every book rule.
 pub fn gorgalhut_book_sound(array: &[u64]) -> bool
     ensures { result ≡ (leb book_words (length array.now) and sound (book_of array.now)) }
 {
-    if array.len() < Link::BOOK {
-        return false;
-    }
-    buffers::sound::book_sound(array)
+    Link::BOOK <= array.len() && buffers::sound::book_sound(array)
+}
+
+// Lays what a call answers into the lent word and steps, zeros for a refusal, and gives the answer's number.
+fn lay(outcome: Outcome, word: &mut u64, steps: &mut u64) -> u8
+    ensures number { result ≡ number_of (answer_in outcome) }
+    ensures word_after { word.new ≡ word_in outcome }
+    ensures steps_after { steps.new ≡ steps_in outcome }
+{
+    let done = outcome.unwrap_or_default();
+    *word = done.word;
+    *steps = done.steps;
+    rules::number_of(outcome)
 }
 
 // Makes an empty queue of so many links.
 pub fn gorgalhut_setup(array: &mut [u64], links: u64, word: &mut u64, steps: &mut u64) -> u8
     ensures { SetUp links array.old array.new result word.new steps.new }
 {
-    let made = queue::setup(array, links);
-    *word = made.word;
-    *steps = made.steps;
-    let answer = made.answer;
-    rules::number_of(answer)
+    lay(queue::setup(array, links), word, steps)
 }
 
 // Puts an entry in, with a work area; `packed` says whether it packed.
@@ -51,88 +60,52 @@ pub fn gorgalhut_insert(
     ensures { PutIn entry array.old array.new work.old work.new result word.new steps.new packed.new }
 {
     let put = queue::insert(array, work, entry);
-    *word = put.word;
-    *steps = put.steps;
-    *packed = put.packed;
-    let answer = put.answer;
-    rules::number_of(answer)
+    *packed = put.unwrap_or_default().packed;
+    lay(put, word, steps)
 }
 
 // Takes the smallest entry held; `word` is the entry.
 pub fn gorgalhut_take(array: &mut [u64], word: &mut u64, steps: &mut u64) -> u8
     ensures { TakenOut array.old array.new result word.new steps.new }
 {
-    let taken = queue::take(array);
-    *word = taken.word;
-    *steps = taken.steps;
-    let answer = taken.answer;
-    rules::number_of(answer)
+    lay(queue::take(array), word, steps)
 }
 
 // Looks at the smallest entry held; `word` is the entry.
 pub fn gorgalhut_look(array: &mut [u64], word: &mut u64, steps: &mut u64) -> u8
     ensures { LookedAt array.old array.new result word.new steps.new }
 {
-    let seen = queue::look(array);
-    *word = seen.word;
-    *steps = seen.steps;
-    let answer = seen.answer;
-    rules::number_of(answer)
+    lay(queue::look(array), word, steps)
 }
 
 // Says how many entries are held; `word` is their number.
 pub fn gorgalhut_held(array: &[u64], word: &mut u64, steps: &mut u64) -> u8
     ensures { Counted array.now result word.new steps.new }
 {
-    let counted = queue::held(array);
-    *word = counted.word;
-    *steps = counted.steps;
-    let answer = counted.answer;
-    rules::number_of(answer)
+    lay(queue::held(array), word, steps)
 }
 
 // Says whether every entry stands in order.
 pub fn gorgalhut_audit(array: &[u64], word: &mut u64, steps: &mut u64) -> u8
     ensures { Audited array.now result word.new steps.new }
 {
-    let audited = queue::audit(array);
-    *word = audited.word;
-    *steps = audited.steps;
-    let answer = audited.answer;
-    rules::number_of(answer)
+    lay(queue::audit(array), word, steps)
 }
 
-// The call of a number, which is its code in a frame.
-#[tactic(auto, unfolding(crate::specs::Numbered::call_of))]
-fn call_of(number: u8) -> tally::Call
-    ensures { result ≡ call_of number }
-{
-    match number {
-        0 => tally::Call::Setup,
-        1 => tally::Call::Insert,
-        2 => tally::Call::Take,
-        3 => tally::Call::Look,
-        4 => tally::Call::Held,
-        _ => tally::Call::Audit,
-    }
-}
-
+// What the number of an answer says, with these steps and this packing.
 #[tactic(auto, unfolding(rules::specs::Answers::answer_of))]
-fn answer_of(number: u8) -> rules::Answer
-    ensures { result ≡ answer_of number }
+fn outcome_of(answer: u8, steps: u64, packed: bool) -> Result<Outcome, NoRefusal>
+    ensures { Meant answer steps packed result }
 {
-    match number {
-        0 => rules::Answer::Done,
-        1 => rules::Answer::NoSuchLinks,
-        2 => rules::Answer::ArrayShort,
-        3 => rules::Answer::WorkShort,
-        4 => rules::Answer::BookBroken,
-        5 => rules::Answer::Full,
-        6 => rules::Answer::NoneHeld,
-        7 => rules::Answer::DoorAbove,
-        9 => rules::Answer::OrderBroken,
-        _ => rules::Answer::NotAFrame,
+    if answer == 0 {
+        return Ok(Ok(Done {
+            word: 0,
+            steps,
+            packed,
+        }));
     }
+    let refusal = Refusal::try_from(answer)?;
+    Ok(Err(refusal))
 }
 
 // Adds a call to the day's tally; says no, and adds nothing, where a number names no call or no answer.
@@ -149,29 +122,24 @@ pub fn gorgalhut_tally_add(
     ensures value { result ≡ named call answer }
     ensures packings_after { tally_of inserts.new takes.new steps.new packings.new ≡ tallied (tally_of inserts.old takes.old steps.old packings.old) call answer made packed }
 {
-    if call <= 5 {
-        let meant = answer_of(answer);
-        if rules::number_of(meant) == answer {
-            let before = tally::Tally {
-                inserts: *inserts,
-                takes: *takes,
-                steps: *steps,
-                packings: *packings,
-            };
-            let outcome = tally::Outcome {
-                answer: meant,
-                steps: made,
-                packed,
-            };
-            let after = tally::updated(before, call_of(call), outcome);
-            *inserts = after.inserts;
-            *takes = after.takes;
-            *steps = after.steps;
-            *packings = after.packings;
-            return true;
-        }
-    }
-    false
+    let Ok(call) = Call::try_from(call) else {
+        return false;
+    };
+    let Ok(outcome) = outcome_of(answer, made, packed) else {
+        return false;
+    };
+    let mut tally = Tally {
+        inserts: *inserts,
+        takes: *takes,
+        steps: *steps,
+        packings: *packings,
+    };
+    tally.update(call, outcome);
+    *inserts = tally.inserts;
+    *takes = tally.takes;
+    *steps = tally.steps;
+    *packings = tally.packings;
+    true
 }
 
 // "frame reader: not a frame; frame writer: as said under Frames"
@@ -182,12 +150,12 @@ pub fn gorgalhut_read_frame(line: &[u8], kind: &mut u8, value: &mut u64) -> u8
     ensures { FrameRead line.now result kind.new value.new }
 {
     match frames::read(line) {
-        frames::ReadFrame::Order(order) => {
-            *kind = frames::code_of(order) as u8;
-            *value = frames::body_of(order);
+        Ok(order) => {
+            *kind = order.code() as u8;
+            *value = order.body();
             0
         }
-        frames::ReadFrame::NotAFrame => {
+        Err(_) => {
             *kind = 0;
             *value = 0;
             NOT_A_FRAME
@@ -195,55 +163,49 @@ pub fn gorgalhut_read_frame(line: &[u8], kind: &mut u8, value: &mut u64) -> u8
     }
 }
 
-// The order of a code and the number in its body, if the body has room for it.
-#[tactic(auto, unfolding(crate::specs::Framed::asked, frames::specs::Orders::order_of))]
-fn asked(kind: u8, value: u64) -> frames::ReadFrame
-    ensures { read_back result ≡ asked kind value }
+// The order of a code and the number in its body, if the body has room for it, is written.
+#[tactic(auto, unfolding(crate::specs::Framed::asked))]
+fn write_asked(kind: u8, value: u64, out: &mut [u8]) -> Result<usize, NotAFrame>
+    ensures { Laid (may_in (asked kind value).values) (line_in (asked kind value).values) out.old out.new result }
 {
-    if kind == 1 {
-        return frames::ReadFrame::Order(frames::Order::Insert(frames::entry_of(value)));
-    }
-    if kind == 0 {
-        if value < 256 {
-            return frames::ReadFrame::Order(frames::Order::Setup(value as u8));
-        }
-        return frames::ReadFrame::NotAFrame;
-    }
-    if 0 < value {
-        return frames::ReadFrame::NotAFrame;
-    }
-    match kind {
-        2 => frames::ReadFrame::Order(frames::Order::Take),
-        3 => frames::ReadFrame::Order(frames::Order::Look),
-        4 => frames::ReadFrame::Order(frames::Order::Held),
-        5 => frames::ReadFrame::Order(frames::Order::Audit),
-        _ => frames::ReadFrame::NotAFrame,
-    }
+    frames::write(Order::of(u64::from(kind), value)?, out)
 }
 
-// Writes an order's digits without 0A; `written` is how many.
-pub fn gorgalhut_write_frame(kind: u8, value: u64, out: &mut [u8], written: &mut usize) -> u8
-    ensures { FrameWritten kind value out.old out.new result written.new }
+// A line is not written where the steps have more than its eight digits.
+fn write_answer(answer: u8, word: u64, steps: u64, out: &mut [u8]) -> Result<usize, NotAFrame>
+    ensures { Laid (ltb steps (2 ^ 32)) (answer_line answer word steps) out.old out.new result }
 {
-    match asked(kind, value) {
-        frames::ReadFrame::Order(order) => match frames::write(order, out) {
-            frames::Written::Bytes(n) => {
-                *written = n;
-                0
-            }
-            frames::Written::Refused => {
-                *written = 0;
-                NOT_A_FRAME
-            }
-        },
-        frames::ReadFrame::NotAFrame => {
+    let steps = u32::try_from(steps).map_err(|_| NotAFrame)?;
+    frames::answer_line(answer, word, steps, out)
+}
+
+// Lays how many bytes were written; the number that comes back says whether they were.
+fn told(laid: Result<usize, NotAFrame>, written: &mut usize) -> u8
+    ensures number { result ≡ (written_back laid).number }
+    ensures bytes { written.new ≡ bytes_in (written_back laid).values }
+{
+    match laid {
+        Ok(n) => {
+            *written = n;
+            0
+        }
+        Err(_) => {
             *written = 0;
             NOT_A_FRAME
         }
     }
 }
 
+// Writes an order's digits without 0A; `written` is how many.
+#[tactic(auto, using(crate::proofs::FramedLaws::lined))]
+pub fn gorgalhut_write_frame(kind: u8, value: u64, out: &mut [u8], written: &mut usize) -> u8
+    ensures { FrameWritten kind value out.old out.new result written.new }
+{
+    told(write_asked(kind, value, out), written)
+}
+
 // Writes the line that answers a call, with its 0A; `written` is how many bytes.
+#[tactic(auto, using(crate::proofs::FramedLaws::lined))]
 pub fn gorgalhut_answer_line(
     answer: u8,
     word: u64,
@@ -253,41 +215,26 @@ pub fn gorgalhut_answer_line(
 ) -> u8
     ensures { Lined (ltb steps (2 ^ 32)) (answer_line answer word steps) out.old out.new result written.new }
 {
-    if steps < 4294967296 {
-        match frames::answer_line(answer, word, steps as u32, out) {
-            frames::Written::Bytes(n) => {
-                *written = n;
-                return 0;
-            }
-            frames::Written::Refused => {}
-        }
-    }
-    *written = 0;
-    NOT_A_FRAME
+    told(write_answer(answer, word, steps, out), written)
 }
 
 // The numbers of a report, six for each of three doors.
 const REPORT: usize = 18;
 
-// Lays a row's six numbers at the beginning.
-fn lay_row(report: &mut [i64], row: lateness::Row)
-    requires in_bounds { 6 ≤ length report.old }
-    requires small { Small row }
-    ensures { report.new ≡ numbers_of row ++ drop 6 report.old }
+// A row's six numbers.
+fn numbers_of(row: Row) -> [i64; 6]
+    requires { Small row }
+    ensures { result ≡ numbers_of row }
 {
     let seen = row.seen;
-    let count = seen.count as i64;
-    let earliest = seen.earliest;
-    let latest = seen.latest;
-    let sum = seen.sum;
-    let exact = seen.exact as i64;
-    let median = row.median;
-    report[0] = count;
-    report[1] = earliest;
-    report[2] = latest;
-    report[3] = sum;
-    report[4] = exact;
-    report[5] = median;
+    [
+        seen.count as i64,
+        seen.earliest,
+        seen.latest,
+        seen.sum,
+        seen.exact as i64,
+        row.median,
+    ]
 }
 
 // A day's report from pairs of due and acting tick, each with a door byte: six numbers for both, for left and for right.
@@ -298,16 +245,20 @@ pub fn gorgalhut_lateness(due: &[u32], acting: &[u32], doors: &[u8], report: &mu
     if report.len() < REPORT {
         return NOT_A_FRAME;
     }
-    let made = lateness::report_of(due, acting, doors);
-    let answer = made.answer;
-    if answer == NOT_A_FRAME {
-        return answer;
+    match lateness::report_of(due, acting, doors) {
+        Ok(made) => {
+            report[..6].copy_from_slice(&numbers_of(made.both));
+            report[6..12].copy_from_slice(&numbers_of(made.left));
+            report[12..REPORT].copy_from_slice(&numbers_of(made.right));
+            0
+        }
+        Err(refusal) => {
+            let answer = u8::from(refusal);
+            if answer == NOT_A_FRAME {
+                return answer;
+            }
+            report[..REPORT].fill(0);
+            answer
+        }
     }
-    let both = made.both;
-    let left = made.left;
-    let right = made.right;
-    lay_row(&mut report[12..], right);
-    lay_row(&mut report[6..], left);
-    lay_row(report, both);
-    answer
 }
