@@ -493,7 +493,7 @@ module _ (ws : List ℕ) where
 -- ---- and what it hands back at each
 
 module _ (ws : List ℕ) where
-  broken_weighs : weighs_right ws ≡ false → None ≡ held_if_sound (book_of ws)
+  pub broken_weighs : weighs_right ws ≡ false → None ≡ held_if_sound (book_of ws)
   broken_weighs wrong = sym (handed ws false (sym (exact ws) ∙ wrong))
 
   pub no_such_link : (links_in ws < 1) ⊎ ((1 ≤ links_in ws) × (most_links < links_in ws)) → None ≡ held_if_sound (book_of ws)

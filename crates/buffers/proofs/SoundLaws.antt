@@ -71,7 +71,7 @@ module _ (w size under : ℕ) where
       go (yes none) = word_none w size (count_in w + under) fits none
       go (no some) = word_some w size (count_in w + under) fits some ∙ ap not (ne_eqb (mark_in w) 1 (λ m. some (mark m)))
 
-  weigh_marked : start_in w + count_in w ≤ size → (count_in w + under ≡ 0 → ⊥) → mark_in w ≡ 1 → weigh w size under ≡ broken
+  pub weigh_marked : start_in w + count_in w ≤ size → (count_in w + under ≡ 0 → ⊥) → mark_in w ≡ 1 → weigh w size under ≡ broken
   weigh_marked fits some mark = weigh_false (word_some w size (count_in w + under) fits some ∙ ap not (eq-eqb (mark_in w) 1 mark))
 
   -- a word that weighs less than what is broken keeps the rules

@@ -62,7 +62,7 @@ as_read due acting = ⊎_elim
     read_early (distance due acting) h s ∙ sym (back due acting h ∙ less_early (distance due acting) turn s))
     (under_or_not (distance due acting) half)
 
-is_distance : (due acting : ℕ) → due < turn → (acting + (turn - due)) % turn ≡ distance due acting
+pub is_distance : (due acting : ℕ) → due < turn → (acting + (turn - due)) % turn ≡ distance due acting
 unfolding distance
 is_distance due acting small = let same : acting + (turn - due) ≡ acting + turn - due = omega arith in ap (λ n. n % turn) same
 

@@ -28,7 +28,7 @@ no_doors (d ∷ due) [] = refl
 no_doors (d ∷ due) (a ∷ acting) = refl
 
 module _ {due acting doors : List ℕ} (lent : Lent due acting doors) (door : ℕ) where
-  from_end : from door (length doors) due acting doors ≡ []
+  pub from_end : from door (length doors) due acting doors ≡ []
   unfolding of_door
   from_end = ap (of_door door) (ap (pairs_of (drop (length doors) due) (drop (length doors) acting)) (drop-length doors) ∙ no_doors (drop (length doors) due) (drop (length doors) acting))
 
@@ -36,10 +36,10 @@ module _ {due acting doors : List ℕ} (lent : Lent due acting doors) (door : �
       ≡ of_door door (pairs_of (get_or due i 0 ∷ drop (suc i) due) (get_or acting i 0 ∷ drop (suc i) acting) (get_or doors i 0 ∷ drop (suc i) doors))
   taken_apart i h = rw (drop-cons due i 0 (omega (arith, lent.dues)), drop-cons acting i 0 (omega (arith, lent.actings)), drop-cons doors i 0 h) refl
 
-  from_yes : (i : ℕ) → i < length doors → get_or doors i 0 ≡ door → from door i due acting doors ≡ lateness_of (get_or due i 0) (get_or acting i 0) ∷ from door (suc i) due acting doors
+  pub from_yes : (i : ℕ) → i < length doors → get_or doors i 0 ≡ door → from door i due acting doors ≡ lateness_of (get_or due i 0) (get_or acting i 0) ∷ from door (suc i) due acting doors
   from_yes i h e = taken_apart i h ∙ yes_door door (get_or due i 0) (get_or acting i 0) (get_or doors i 0) (drop (suc i) due) (drop (suc i) acting) (drop (suc i) doors) e
 
-  from_no : (i : ℕ) → i < length doors → get_or doors i 0 ≢ door → from door i due acting doors ≡ from door (suc i) due acting doors
+  pub from_no : (i : ℕ) → i < length doors → get_or doors i 0 ≢ door → from door i due acting doors ≡ from door (suc i) due acting doors
   from_no i h e = taken_apart i h ∙ no_door door (get_or due i 0) (get_or acting i 0) (get_or doors i 0) (drop (suc i) due) (drop (suc i) acting) (drop (suc i) doors) e
 
 -- ---- a pass from the last pair to the first: what is told of those behind a place
@@ -81,8 +81,11 @@ doors_length door (d ∷ due) (a ∷ acting) (b ∷ doors) =
     (λ p. omega (arith, doors_length door due acting doors))
     (λ n. omega (arith, doors_length door due acting doors))
 
-pub from_few : (door i : ℕ) {due acting doors : List ℕ} → Lent due acting doors → length (from door i due acting doors) ≤ 4096
-from_few door i {due} {acting} {doors} lent = omega (arith, doors_length door (drop i due) (drop i acting) (drop i doors), length-drop i doors, lent.few)
+pub from_few : (door i : ℕ) (due acting doors : List ℕ) → length (from door i due acting doors) ≤ length doors - i
+from_few door i due acting doors = omega (arith, doors_length door (drop i due) (drop i acting) (drop i doors), length-drop i doors)
+
+pub lent_few : (door i : ℕ) {due acting doors : List ℕ} → Lent due acting doors → length (from door i due acting doors) ≤ 4096
+lent_few door i {due} {acting} {doors} lent = omega (arith, from_few door i due acting doors, lent.few)
 
 pub door_few : (door : ℕ) {pairs : List Pair} {due acting doors : List ℕ} → Lent due acting doors → pairs_of due acting doors ≡ pairs → length (of_door door pairs) ≤ 4096
 door_few door {pairs} {due} {acting} {doors} lent e = omega (arith, ap (λ ps. length (of_door door ps)) e, doors_length door due acting doors, lent.few)

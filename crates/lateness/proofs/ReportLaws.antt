@@ -28,7 +28,7 @@ module _ (due acting doors : List ℕ) where
   other : (P : Type 0) (n : ℕ) → n ≡ answer_of due acting doors → answer_of due acting doors ≡ 0 → n ≢ 0 → P
   other P n a e z = absurd (z (a ∙ e))
 
-  done_lent : answer_of due acting doors ≡ 0 → Lent due acting doors
+  pub done_lent : answer_of due acting doors ≡ 0 → Lent due acting doors
   done_lent e =
       let dues = by_eqb (length due) (length doors) (λ t. length due ≡ length doors) (λ p. p) (λ n. other (length due ≡ length doors) 10 (other_dues due acting doors n) e (omega arith)) in
       let actings = by_eqb (length acting) (length doors) (λ t. length acting ≡ length doors) (λ p. p) (λ n. other (length acting ≡ length doors) 10 (other_actings due acting doors dues n) e (omega arith)) in

@@ -13,7 +13,7 @@ use Rattle.lateness.specs.Reports.{sum_of, hits, seen_of, Few}
 use Rattle.lateness.specs.declared.Seen.{Seen}
 use Rattle.lateness.proofs.ClockLaws.{under_or_not}
 use Rattle.lateness.proofs.OrderLaws.{clash, by_test, other_way, le_through, same_above}
-use Rattle.lateness.proofs.PairLaws.{from, from_few, Within, door_within, sum_small, hits_few, number_within, Passed}
+use Rattle.lateness.proofs.PairLaws.{from, lent_few, Within, door_within, sum_small, hits_few, number_within, Passed}
 use Rattle.lateness.proofs.NumberLaws.{step_yes, step_no, number_at, at_most_all}
 
 -- ---- the smaller and the larger of two
@@ -130,4 +130,4 @@ few_seen xs within few = record {
 
 pub passed_few : {door i : ℕ} {due acting doors : List ℕ} {seen : Seen} → Lent due acting doors → Passed seen_of door due acting doors i seen → Few seen
 passed_few {door} {i} {due} {acting} {doors} lent passed =
-    subst Few (sym passed.told) (few_seen (from door i due acting doors) (door_within door (pairs_of (drop i due) (drop i acting) (drop i doors))) (from_few door i lent))
+    subst Few (sym passed.told) (few_seen (from door i due acting doors) (door_within door (pairs_of (drop i due) (drop i acting) (drop i doors))) (lent_few door i lent))

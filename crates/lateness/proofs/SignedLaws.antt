@@ -10,7 +10,7 @@ use Rattle.lateness.specs.Pairs.{Lent}
 use Rattle.lateness.specs.Reports.{hits, seen_of}
 use Rattle.lateness.specs.declared.Seen.{Seen}
 use Rattle.lateness.proofs.NumberLaws.{step_yes, step_no, at_most_all}
-use Rattle.lateness.proofs.PairLaws.{from, from_few, Passed}
+use Rattle.lateness.proofs.PairLaws.{from, lent_few, Passed}
 use Rattle.lateness.proofs.ClockLaws.{lateness_is, small, in_clock, raised, above_short, late_in_clock, mag_sum}
 
 pub fits_half : {z : ℤ} → mag z < half → SFits w64 z
@@ -85,7 +85,7 @@ module _ {r : ℤ} (v : ℤ) (fr : SFits w64 r) (x : ℤ) (xs : List ℤ) (n : �
   passed_over t = count ∙ sym (step_no v x xs (tested ∙ t))
 
 pub counted_few : (v : ℤ) {door n i : ℕ} {due acting doors : List ℕ} → Lent due acting doors → Passed (at_most v) door due acting doors i n → n ≤ 4096
-counted_few v {door} {n} {i} {due} {acting} {doors} lent passed = omega (arith, passed.told, at_most_all v (from door i due acting doors), from_few door i lent)
+counted_few v {door} {n} {i} {due} {acting} {doors} lent passed = omega (arith, passed.told, at_most_all v (from door i due acting doors), lent_few door i lent)
 
 pub at_most_read : {v : ℤ} (xs : List ℤ) {n : ℕ} → SFits w64 v → n ≡ at_most (to_z w64 (of_z w64 v)) xs → n ≡ at_most v xs
 at_most_read xs f e = e ∙ ap (λ v. at_most v xs) (to_z-of_z f)

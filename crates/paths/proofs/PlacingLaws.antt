@@ -18,11 +18,11 @@ use Rattle.runs.proofs.LayingLaws.{laid_apart, laid_more, laid_on, length_laid, 
 use Rattle.paths.specs.Placing.{Holds}
 
 module _ (key : ℕ → ℕ) where
-  placed_before : (e x : ℕ) (xs : List ℕ) → leb (key x) (key e) ≡ false → placed key e (x ∷ xs) ≡ e ∷ x ∷ xs
+  pub placed_before : (e x : ℕ) (xs : List ℕ) → leb (key x) (key e) ≡ false → placed key e (x ∷ xs) ≡ e ∷ x ∷ xs
   unfolding placed
   placed_before e x xs larger = rw (lt-ltb (key e) (key x) (leb-false (key x) (key e) larger), placed)
 
-  placed_behind : (e x : ℕ) (xs : List ℕ) → leb (key x) (key e) ≡ true → placed key e (x ∷ xs) ≡ x ∷ placed key e xs
+  pub placed_behind : (e x : ℕ) (xs : List ℕ) → leb (key x) (key e) ≡ true → placed key e (x ∷ xs) ≡ x ∷ placed key e xs
   unfolding placed
   placed_behind e x xs other = rw (le-ltb (key e) (key x) (leb-true (key x) (key e) other), placed)
 

@@ -128,4 +128,18 @@ impl Tally {
     {
         *self = self.updated(call, outcome);
     }
+
+    // The same two of any answer beside any steps and packing, as numbers tell of a call; a refusal's steps and packing add nothing.
+    #[tactic(auto, using(crate::proofs::DayLaws::all_told))]
+    pub fn with(self, call: Call, answer: Result<(), Refusal>, steps: u64, packed: bool) -> Self
+        ensures { result ≡ up_to_date self call (record { answer = answer_in answer; steps = steps; packed = packed }) }
+    {
+        self.updated(call, told(answer, steps, packed))
+    }
+
+    pub fn add(&mut self, call: Call, answer: Result<(), Refusal>, steps: u64, packed: bool)
+        ensures { self.new ≡ up_to_date self.old call (record { answer = answer_in answer; steps = steps; packed = packed }) }
+    {
+        *self = self.with(call, answer, steps, packed);
+    }
 }
