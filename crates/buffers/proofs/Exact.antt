@@ -7,7 +7,7 @@ use native.Mathlib.Nat.{zero-add, add-zero}
 use native.Mathlib.Omega.{arith}
 use native.Mathlib.Decide.{ℕ_discrete, dec_lt}
 use mathlib.Core.List.{List}
-use Rattle.std.specs.Prelude.{Option, Some, None, is_some}
+use Rattle.std.specs.Prelude.{Option, Some, None, is_some, unwrap_or}
 use lib.ListN.{length}
 use lib.Dec.{T, leb, ltb, eqb, eqb→eq, ltb→lt}
 use borrow.Author.Tests.{eqb-true, eq-eqb, leb-true, le-leb, lt-leb}
@@ -535,3 +535,16 @@ module _ (ws : List ℕ) where
             let is_all : all ws ≡ weigh (word_of ws 0) 8 0 + links_weight ws 1 (links_in ws) = subst (λ l. together (book_of ws) 0 (buffer_count l) ≡ weigh (word_of ws 0) 8 0 + links_weight ws 1 (links_in ws)) (sym (links_is ws)) (weights_held ws right) in
             let e : inserted + held ≡ all ws = omega (arith, is_all, is_weight, behind_all ws (links_in ws) held behind) in
             ap (λ n. Some n) e ∙ sym (handed ws true (sym (exact ws) ∙ right))
+
+-- ---- a number that tells it: `broken` where nothing is handed back, which no sound book's number reaches
+
+module _ (ws : List ℕ) where
+  all_small : sound (book_of ws) ≡ true → all ws < broken
+  all_small right = let r = sound_rules (book_of ws) right in omega (arith, r.at_most_h, most_small r.link_number)
+
+  pub below_exactly : (n : ℕ) → n ≡ unwrap_or (held_if_sound (book_of ws)) broken → ltb n broken ≡ sound (book_of ws)
+  below_exactly n e = go (sound (book_of ws)) refl
+    where
+      go : (t : Bool) → sound (book_of ws) ≡ t → ltb n broken ≡ t
+      go true s = le-leb (suc n) broken (omega (arith, all_small s, e ∙ ap (λ o. unwrap_or o broken) (handed ws true s)))
+      go false s = lt-leb (suc n) broken (omega (arith, e ∙ ap (λ o. unwrap_or o broken) (handed ws false s)))
