@@ -239,12 +239,14 @@ pub fn write(order: Order, out: &mut [u8]) -> Result<usize, NotAFrame>
     ensures { Laid (writable order) (frame_of order) out.old out.new result }
 {
     let code = order.code();
+    // here, where the order is looked at, and not behind the first digits
+    let body = order.body();
     let end = 2 + width(code);
     if !order.is_writable() || out.len() < end {
         return Err(NotAFrame);
     }
     digits::put::<16>(&mut out[..2], code);
-    digits::put::<16>(&mut out[2..end], order.body());
+    digits::put::<16>(&mut out[2..end], body);
     Ok(end)
 }
 

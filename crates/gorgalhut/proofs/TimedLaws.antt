@@ -2,11 +2,16 @@
 use mathlib.Core.Path.{◌≡◌, refl, sym, ap, ◌∙◌, subst}
 use mathlib.Core.Logic.{◌≢◌}
 use mathlib.Core.Bool.{cond}
-use mathlib.Core.List.{List, [], ◌++◌}
-use Prim.Native.Nat.{ℕ, zero, suc, ◌≤◌, ◌<◌}
+use mathlib.Core.List.{List, [], ◌∷◌, ◌++◌, append-nil}
+use Prim.Native.Nat.{ℕ, zero, suc, ◌+◌, ◌-◌, ◌≤◌, ◌<◌}
 use native.Mathlib.Omega.{arith}
-use lib.ListN.{length, drop, replicate}
-use lib.Seq.{drop-drop}
+use lib.ListN.{length, take, drop, set, replicate, length-append, length-drop, drop_of_length-le}
+use lib.Seq.{length-take-le, take_all, drop_at, drop-drop}
+use mir.Syntax.{w64}
+use mir.Val.{to_z, of_z}
+use mir.ValLaws.{to_z-of_z, to_z_pos}
+use Rattle.lateness.proofs.ClockLaws.{small}
+use Rattle.lateness.proofs.SignedLaws.{fits_half}
 use lib.IntN.{ℤ, pos}
 use borrow.Rule.Slice.PartMut.{put_mid}
 use Rattle.rules.proofs.Sizes.{by_eqb, leb-false}
@@ -18,13 +23,90 @@ use Rattle.lateness.specs.declared.Row.{Row}
 use Rattle.lateness.proofs.ReportLaws.{rows_small}
 use Rattle.gorgalhut.specs.Timed.{numbers_of, report_numbers, timed_answer, timed_report}
 
--- ---- three rows, one behind another
+-- ---- six numbers
 
-pub all_laid : (l : List ℤ) {both left right : Row} {first second third : List ℤ} → first ≡ numbers_of both → second ≡ numbers_of left → third ≡ numbers_of right
-    → put_mid 12 6 (put_mid 6 6 (first ++ drop 6 l) second) third ≡ numbers_of both ++ (numbers_of left ++ (numbers_of right ++ drop 18 l))
-all_laid l {both} {left} {right} e f g =
-    let rest : drop 6 (drop 6 (drop 6 l)) ≡ drop 18 l = ap (drop 6) (drop-drop 6 6 l) ∙ drop-drop 6 12 l in
-    rw (e, f, g) (ap (λ p. numbers_of both ++ (numbers_of left ++ (numbers_of right ++ p))) rest)
+six : (l : List ℤ) (a b c d e f : ℤ) → 6 ≤ length l → set (set (set (set (set (set l 0 a) 1 b) 2 c) 3 d) 4 e) 5 f ≡ a ∷ b ∷ c ∷ d ∷ e ∷ f ∷ drop 6 l
+six [] a b c d e f h = absurd (omega arith)
+six (_ ∷ []) a b c d e f h = absurd (omega arith)
+six (_ ∷ _ ∷ []) a b c d e f h = absurd (omega arith)
+six (_ ∷ _ ∷ _ ∷ []) a b c d e f h = absurd (omega arith)
+six (_ ∷ _ ∷ _ ∷ _ ∷ []) a b c d e f h = absurd (omega arith)
+six (_ ∷ _ ∷ _ ∷ _ ∷ _ ∷ []) a b c d e f h = absurd (omega arith)
+six (_ ∷ _ ∷ _ ∷ _ ∷ _ ∷ _ ∷ l) a b c d e f h = refl
+
+pub row_laid : (l : List ℤ) (row : Row) → 6 ≤ length l → Small row
+    → set (set (set (set (set (set l 0 (to_z w64 row.seen.count)) 1 (to_z w64 (of_z w64 row.seen.earliest))) 2 (to_z w64 (of_z w64 row.seen.latest))) 3 (to_z w64 (of_z w64 row.seen.sum))) 4
+    (to_z w64 row.seen.exact)) 5 (to_z w64 (of_z w64 row.median))
+    ≡ numbers_of row ++ drop 6 l
+row_laid l row h s =
+    let few = s.seen in
+    rw (
+      to_z_pos w64 row.seen.count (omega (arith, few.counts)),
+      to_z_pos w64 row.seen.exact (omega (arith, few.exacts)),
+      to_z-of_z w64 (row.seen.earliest) (fits_half few.first),
+      to_z-of_z w64 (row.seen.latest) (fits_half few.last),
+      to_z-of_z w64 (row.seen.sum) (small (omega (arith, few.total))),
+      to_z-of_z w64 (row.median) (fits_half s.middle),
+    ) (six l (pos row.seen.count) row.seen.earliest row.seen.latest row.seen.sum (pos row.seen.exact) row.median h)
+
+-- ---- a row from a place on
+
+module _ (l : List ℤ) (at : ℕ) where
+  rest : take (length l - at) (drop at l) ≡ drop at l
+  rest = take_all (length l - at) (drop at l) (simp length-drop (omega arith))
+
+  pub rest_long : at + 6 ≤ length l → 6 ≤ length (take (length l - at) (drop at l))
+  rest_long h = rw (rest, length-drop) (omega arith)
+
+  pub row_there : (row : Row) (laid : List ℤ) → laid ≡ numbers_of row ++ drop 6 (take (length l - at) (drop at l)) → put_mid at (length l - at) l laid ≡ take at l ++ (numbers_of row ++ drop (at + 6) l)
+  row_there row laid e =
+      let past : drop (length l - at) (drop at l) ≡ [] = drop_of_length-le (drop at l) {i = length l - at} (simp length-drop (omega arith)) in
+      let behind : drop 6 (take (length l - at) (drop at l)) ≡ drop (at + 6) l = ap (drop 6) rest ∙ drop-drop 6 at l in
+      ap (λ p. take at l ++ (laid ++ p)) past ∙ ap (λ p. take at l ++ p) (append-nil laid ∙ e ∙ ap (λ p. numbers_of row ++ p) behind)
+
+  pub there_long : (row : Row) → at + 6 ≤ length l → length (take at l ++ (numbers_of row ++ drop (at + 6) l)) ≡ length l
+  there_long row h = simp (length-append, length-drop, length-take-le at l (omega arith)) (omega arith)
+
+  behind_front : (tail : List ℤ) → at ≤ length l → drop at (take at l ++ tail) ≡ tail
+  behind_front tail h = drop_at (take at l) tail at (length-take-le at l h)
+
+-- ---- three rows, the last first
+
+module _ (l : List ℤ) (long : 18 ≤ length l) (right : Row) {last : List ℤ} (first_laid : last ≡ numbers_of right ++ drop 6 (take (length l - 12) (drop 12 l))) where
+  one : List ℤ
+  one = take 12 l ++ (numbers_of right ++ drop 18 l)
+
+  is_one : put_mid 12 (length l - 12) l last ≡ one
+  unfolding one
+  is_one = row_there l 12 right last first_laid
+
+  one_long : length one ≡ length l
+  unfolding one
+  one_long = there_long l 12 right long
+
+  pub second_room : 6 ≤ length (take (length (put_mid 12 (length l - 12) l last) - 6) (drop 6 (put_mid 12 (length l - 12) l last)))
+  second_room = rest_long (put_mid 12 (length l - 12) l last) 6 (omega (arith, ap length is_one, one_long))
+
+  module _ (left : Row) {middle : List ℤ}
+      (second_laid : middle ≡ numbers_of left ++ drop 6 (take (length (put_mid 12 (length l - 12) l last) - 6) (drop 6 (put_mid 12 (length l - 12) l last)))) where
+    two : List ℤ
+    unfolding one
+    two = take 6 one ++ (numbers_of left ++ drop 12 one)
+
+    is_two : put_mid 6 (length (put_mid 12 (length l - 12) l last) - 6) (put_mid 12 (length l - 12) l last) middle ≡ two
+    unfolding one two
+    is_two = row_there (put_mid 12 (length l - 12) l last) 6 left middle second_laid ∙ ap (λ o. take 6 o ++ (numbers_of left ++ drop 12 o)) is_one
+
+    pub third_room : 6 ≤ length (put_mid 6 (length (put_mid 12 (length l - 12) l last) - 6) (put_mid 12 (length l - 12) l last) middle)
+    unfolding one two
+    third_room = omega (arith, ap length is_two, there_long one 6 left (omega (arith, one_long)), one_long)
+
+    pub all_laid : (both : Row) {after : List ℤ} → after ≡ numbers_of both ++ drop 6 (put_mid 6 (length (put_mid 12 (length l - 12) l last) - 6) (put_mid 12 (length l - 12) l last) middle)
+        → after ≡ numbers_of both ++ (numbers_of left ++ (numbers_of right ++ drop 18 l))
+    unfolding one two
+    all_laid both e =
+        e ∙ ap (λ p. numbers_of both ++ drop 6 p) is_two
+        ∙ ap (λ p. numbers_of both ++ p) (behind_front one 6 (numbers_of left ++ drop 12 one) (omega (arith, one_long)) ∙ ap (λ p. numbers_of left ++ p) (behind_front l 12 (numbers_of right ++ drop 18 l) (omega arith)))
 
 -- ---- what the caller gets
 

@@ -221,20 +221,20 @@ pub fn gorgalhut_answer_line(
 // The numbers of a report, six for each of three doors.
 const REPORT: usize = 18;
 
-// A row's six numbers.
-fn numbers_of(row: Row) -> [i64; 6]
-    requires { Small row }
-    ensures { result ≡ numbers_of row }
+// Lays a row's six numbers at the beginning.
+#[tactic(auto, using(crate::proofs::TimedLaws::row_laid))]
+fn lay_row(report: &mut [i64], row: Row)
+    requires in_bounds { 6 ≤ length report.old }
+    requires small { Small row }
+    ensures { report.new ≡ numbers_of row ++ drop 6 report.old }
 {
     let seen = row.seen;
-    [
-        seen.count as i64,
-        seen.earliest,
-        seen.latest,
-        seen.sum,
-        seen.exact as i64,
-        row.median,
-    ]
+    report[0] = seen.count as i64;
+    report[1] = seen.earliest;
+    report[2] = seen.latest;
+    report[3] = seen.sum;
+    report[4] = seen.exact as i64;
+    report[5] = row.median;
 }
 
 // A day's report from pairs of due and acting tick, each with a door byte: six numbers for both, for left and for right.
@@ -247,9 +247,9 @@ pub fn gorgalhut_lateness(due: &[u32], acting: &[u32], doors: &[u8], report: &mu
     }
     match lateness::report_of(due, acting, doors) {
         Ok(made) => {
-            report[..6].copy_from_slice(&numbers_of(made.both));
-            report[6..12].copy_from_slice(&numbers_of(made.left));
-            report[12..REPORT].copy_from_slice(&numbers_of(made.right));
+            lay_row(&mut report[12..], made.right);
+            lay_row(&mut report[6..], made.left);
+            lay_row(report, made.both);
             0
         }
         Err(refusal) => {

@@ -14,5 +14,5 @@ returns-then-not-is_writable c =
 
 pub returns : goal.returns
 returns c =
-    frame_laid _ (sym c.is_writable.ensures ∙ c.if-not-is_writable.false) c.code-code.ensures c.width-end.ensures c.body.ensures
+    frame_laid _ (sym c.is_writable.ensures ∙ c.if-not-is_writable.false) c.code-code.ensures c.width-end.ensures c.body-body.ensures
     (two_laid _ _ _ _ _ _ (omega arith) (c.put.ensures ∙ written_sixteen _ _) (c.put-2.ensures ∙ written_sixteen _ _))

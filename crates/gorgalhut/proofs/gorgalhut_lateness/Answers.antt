@@ -6,27 +6,21 @@ use Rattle.gorgalhut.proofs.gorgalhut_lateness.Goals as goal
 pub returns-then-report-lt-REPORT : goal.returns-then-report-lt-REPORT
 returns-then-report-lt-REPORT c = record { value = short_answer _ _ _ _ (omega arith); report_after = short_report _ _ _ _ (omega arith) }
 
-pub numbers_of-requires : goal.numbers_of-requires
-numbers_of-requires c = both_small _ _ _ _ c.in-Ok.ensures
+pub lay_row-requires-clause-small : goal.lay_row-requires-clause-small
+lay_row-requires-clause-small c = right_small _ _ _ _ c.in-Ok.ensures
 
-pub numbers_of-requires-in-Ok : goal.numbers_of-requires-in-Ok
-numbers_of-requires-in-Ok c = left_small _ _ _ _ c.in-Ok.ensures
+pub lay_row-requires-in-Ok-clause-small : goal.lay_row-requires-in-Ok-clause-small
+lay_row-requires-in-Ok-clause-small c = left_small _ _ _ _ c.in-Ok.ensures
 
-pub numbers_of-requires-in-Ok-2 : goal.numbers_of-requires-in-Ok-2
-numbers_of-requires-in-Ok-2 c = right_small _ _ _ _ c.in-Ok.ensures
-
-pub copy_from_slice-requires : goal.copy_from_slice-requires
-copy_from_slice-requires c = omega (arith, length-take 6 c.args.report.now, ap length c.numbers_of.ensures)
+pub lay_row-requires-in-Ok-2-clause-small : goal.lay_row-requires-in-Ok-2-clause-small
+lay_row-requires-in-Ok-2-clause-small c = both_small _ _ _ _ c.in-Ok.ensures
 
 pub returns-in-Ok : goal.returns-in-Ok
 returns-in-Ok c =
     let made = c.in-Ok.ensures in
-    let both = c.copy_from_slice.ensures.after ∙ c.numbers_of.ensures in
-    let left = c.copy_from_slice-in-Ok.ensures.after ∙ c.numbers_of-in-Ok.ensures in
-    let right = c.copy_from_slice-in-Ok-2.ensures.after ∙ c.numbers_of-in-Ok-2.ensures in
     record {
       value = made_answer _ _ _ _ (omega arith) _ made;
-      report_after = made_report _ _ _ _ (omega arith) _ made (omega arith) (all_laid c.args.report.now both left right);
+      report_after = made_report _ _ _ _ (omega arith) _ made (omega arith) (all_laid c.args.report.now (omega arith) _ c.lay_row.ensures _ c.lay_row-in-Ok.ensures _ c.lay_row-in-Ok-2.ensures);
     }
 
 pub returns-then-answer-eq-NOT_A_FRAME : goal.returns-then-answer-eq-NOT_A_FRAME
